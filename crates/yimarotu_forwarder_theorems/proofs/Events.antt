@@ -15,7 +15,8 @@ use Rattle.yimarotu_forwarder_theorems.specs.Replies.{replied_by, replied_to, to
 use Rattle.yimarotu_forwarder_theorems.specs.Runs.{ForwarderEvent, Happens, all_is_cleared, channel_fails, client_is_gone, is_stepped, local_data_is, name_is_flushed, octets_come, options_are, query_comes, query_is_refused, servers_are, step_is_refused, time_passes}
 use Rattle.yimarotu_forwarder_theorems.proofs.Answering.{QueryMoves, answers, query_joins, query_stays}
 use Rattle.yimarotu_forwarder_theorems.proofs.Cores.{Core, IsSaid, Joins, Leaves, Source, Stills, as_before, cache_changes, core, failures_change, is_flushed, left_by, more, still-one, stills-said}
-use Rattle.yimarotu_forwarder_theorems.proofs.Stepping.{IsReply, StepMoves, is-refused, step_replies, step_stays, steps}
+use Rattle.yimarotu_forwarder_theorems.proofs.Stepping.{IsReply, StepMoves, step_replies, step_stays, steps}
+use Rattle.yimarotu_forwarder_theorems.proofs.Stopping.{is-refused}
 
 -- who comes to wait with it, and who is replied to; and nobody is gone
 pub record Says (event : ForwarderEvent) (before : ForwarderValue) (told replied : List RequestValue) : Type 0 where

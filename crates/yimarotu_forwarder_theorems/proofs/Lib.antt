@@ -1,3 +1,4 @@
+pub mod Afters
 pub mod Answering
 pub mod Believed
 pub mod Bounds
@@ -14,4 +15,5 @@ pub mod Octets
 pub mod Pools
 pub mod Replied
 pub mod Stepping
+pub mod Stopping
 pub mod Waiting

@@ -49,6 +49,7 @@ use Rattle.yimarotu_forwarder_theorems.specs.Lookups.{AnswersAreOfReplies, HasSh
 use Rattle.yimarotu_forwarder_theorems.specs.Runs.{ForwarderEvent, Happening, Runs, at_first, happened, next}
 use Rattle.yimarotu_forwarder_theorems.proofs.Cores.{Core, Fetching, IsBegun, IsChainEnd, IsEndOf, IsLed, IsSaid, IsThatOf, Joins, Leaves, Puts, Source, Still, Stills, StoresEnd, as_before, begins_alone, cache_changes, chain_ends, core, end_so, failures_change, has_failed, has_heard, is_flushed, is_heard, is_kept, is_known, is_let_go, is_over, is_told_late, known_here, left_by, more, no_chain_ends, stored-at, told_reply}
 use Rattle.yimarotu_forwarder_theorems.proofs.Events.{EventMoves, event_goes, event_joins, event_leaves, event_options, event_stays, moves}
+use Rattle.yimarotu_forwarder_theorems.proofs.Afters.{after-keeps}
 use Rattle.yimarotu_forwarder_theorems.proofs.Keys.{same-key}
 use Rattle.yimarotu_forwarder_theorems.proofs.KeptValues.{AllKept, StoresSuch, all-after, all-filtered, told-kept}
 
@@ -98,16 +99,8 @@ all-asked (m ∷ ms) l lead = omega (arith, all-asked ms (after m l) lead.1, one
 -- with DO or without, all along
 dnssec-after : (ms : Messages) (l : LookupValue) → (after_all l ms).dnssec ≡ l.dnssec
 dnssec-after [] l = refl
-dnssec-after (m ∷ ms) l = dnssec-after ms (after m l) ∙ by (kept_of l.next l.dnssec m) (next_question l.next m.message)
-  where
-    going : (k : KeptValue) (q : Query) (b : Bool) → (if b then gone_on k q l else l).dnssec ≡ l.dnssec
-    going k q true = refl
-    going k q false = refl
-
-    by : (k : Option KeptValue) (q : Option Query) → (after_of k q l).dnssec ≡ l.dnssec
-    by None q = refl
-    by (Some k) None = refl
-    by (Some k) (Some q) = going k q (may_go_on l)
+dnssec-after (m ∷ ms) l =
+    dnssec-after ms (after m l) ∙ after-keeps (λ (x : LookupValue). x.dnssec) m l (λ k. refl) (λ k q. refl)
 
 -- ---- replies that were told
 

@@ -34,7 +34,7 @@ use Rattle.whole_lookups.specs.declared.heard.Heard.TheVariants as heard_as
 use Rattle.whole_replies.specs.Kept.{KeptValue, aged, kept_of, next_question}
 use Rattle.yimarotu_forwarder.specs.Fetches.{FetchValue, asked_for, fetch_at}
 use Rattle.yimarotu_forwarder.specs.Forwarders.{ChainEndValue, ForwarderValue, ReplyingValue, TellingValue, second_of}
-use Rattle.yimarotu_forwarder.specs.Steps.{AsksBy, AsksFirst, AsksFor, AsksNext, AsksOr, AsksPool, EndsWith, ForwarderSteps, IsLetGo, PrefetchesFirst, RepliesFirst, RepliesNext, RepliesTo, StepsPool, StopsAsking, StopsAskingFirst, StopsPrefetchingFirst, StopsReplyingFirst, StopsStep, StopsTellingFirst, TellsFirst, TellsLateFirst, action_of, as_cached, asks_with, cached_until, has_turn, keeps_chain_end, keeps_end, lets_go, with_stored, without_chain_end, without_failure}
+use Rattle.yimarotu_forwarder.specs.Steps.{AsksBy, AsksFirst, AsksFor, AsksNext, AsksOr, AsksPool, EndsWith, ForwarderSteps, PrefetchesFirst, RepliesFirst, RepliesNext, RepliesTo, StepsPool, TellsFirst, TellsLateFirst, action_of, as_cached, asks_with, cached_until, has_turn, keeps_chain_end, keeps_end, lets_go, with_stored, without_chain_end, without_failure}
 use Rattle.yimarotu_forwarder.specs.Local.{IsDecided}
 use Rattle.yimarotu_forwarder.specs.Late.{TellsLate, TellsLateIf, TellsWaiting, TellsWaitingOf, first_due, is_told_late as is_late_key, passed_over}
 use Rattle.yimarotu_forwarder.specs.LookingUp.{after_ask, pool_question, pool_says}
@@ -43,18 +43,19 @@ use Rattle.yimarotu_forwarder.specs.NextQuestions.{are_denied_alike, as_end, ask
 use Rattle.yimarotu_forwarder.specs.Prefetching.{AsksLone, BeginsLoneBy, DecidesLone, Prefetches, PrefetchesWhere, key_dnssec, key_query, key_unchecked, lone_fetch, may_prefetch, without_prefetch}
 use Rattle.yimarotu_forwarder.specs.Options.{OptionsValue, denied_for}
 use Rattle.yimarotu_forwarder.specs.Stale.{kept_until, told_end}
-use Rattle.yimarotu_forwarder.specs.Telling.{EndsFetch, EndsForMemory, Finishes, Hears, StopsNext, StopsTelling, Tells, TellsAsker, TellsFetch, TellsKey, TellsNext, as_told, chain_end_for, chain_end_in, chain_end_of, chain_end_with, counts_asker, earlier_second, ends_chain, failures_after, first_second, forgets_asker, heard_after, heard_so, is_noted, lookup_after, reason_of, response_of, told_of, whole_end, with_end}
+use Rattle.yimarotu_forwarder.specs.Telling.{EndsFetch, Finishes, Hears, Tells, TellsAsker, TellsFetch, TellsKey, TellsNext, as_told, chain_end_for, chain_end_in, chain_end_of, chain_end_with, counts_asker, earlier_second, ends_chain, failures_after, first_second, forgets_asker, heard_after, heard_so, is_noted, lookup_after, reason_of, response_of, told_of, whole_end, with_end}
 use Rattle.yimarotu_forwarder.specs.declared.choices.TheConstants.{LONGEST_STALE}
 use Rattle.yimarotu_forwarder.specs.declared.steps.ForwarderAction.{ForwarderAction}
 use Rattle.yimarotu_forwarder.specs.declared.steps.ForwarderAction.TheVariants as act
 use Rattle.yimarotu_forwarder_theorems.specs.Lookups.{IsKnown, LastsTo, Storing, ToldReply}
+use Rattle.yimarotu_forwarder_theorems.proofs.Afters.{after-keeps}
 use Rattle.yimarotu_forwarder_theorems.proofs.KeptValues.{told-asked-any}
 use Rattle.yimarotu_forwarder_theorems.proofs.Keys.{next-dnssec}
 use Rattle.yimarotu_forwarder_theorems.proofs.Cores.{Core, EndsByKept, IsChainEnd, IsEndOf, IsSaid, IsSame, Leaves, Source, Still, Stills, StoresChainEnd, StoresTold, as_before, begins_alone, cache_changes, chain_ends, core, end_so, failures_change, has_failed, has_heard, is_heard, is_kept, is_known, is_let_go, is_over, is_told_late, known_here, more, no_chain_ends, still-one, stills-then, stored-at, told_reply}
 
 -- ---- lists
 
-none-first : (ws : List RequestValue) → slice_get ws 0 ≡ None → ws ≡ []
+pub none-first : (ws : List RequestValue) → slice_get ws 0 ≡ None → ws ≡ []
 none-first [] h = refl
 none-first (w ∷ ws) h = absurd cc
 
@@ -75,10 +76,10 @@ all-true false b c h = absurd (let no : false ≡ true = h in cc)
 
 -- ---- a look-up is over
 
-same-fetch : (f : FetchValue) → IsSame f f
+pub same-fetch : (f : FetchValue) → IsSame f f
 same-fetch f = record { waiting = refl; asked = refl }
 
-finishes : {said : Source → Type 0}
+pub finishes : {said : Source → Type 0}
     (key : List ℕ) (end : FetchEnd) (f g : FetchValue) (b a : ForwarderValue) → b.replying ≡ None
     → fetch_at key b.fetches ≡ Some f → IsSame f g → IsEndOf said b.cache f g.lookup.count end
     → Finishes key end g b a
@@ -158,7 +159,7 @@ keeping f b = record {
 }
 
 -- a reply that is told now
-abbrev told-now : WireMessage → ForwarderValue → ToldReply
+abbrev pub told-now : WireMessage → ForwarderValue → ToldReply
 told-now m b = record { message = m; second = second_of b }
 
 no-next : (f : FetchValue) (m : WireMessage) (o : Option Query) → next_question (led-to f) m.message ≡ o
@@ -230,7 +231,7 @@ is-chain-end {said} over asker b e says h = by (response_of over) refl h
     by (Some m) is h = by-key m (says m is) (asked_for asker b.fetches) h
 
 -- it is noted, with the asker
-counts-asker : {said : Source → Type 0} (t : TellingValue) (asker : ℕ) (b : ForwarderValue)
+pub counts-asker : {said : Source → Type 0} (t : TellingValue) (asker : ℕ) (b : ForwarderValue)
     → ((m : WireMessage) → response_of t.over ≡ Some m → said (told_reply (told-now m b)))
     → Still said (core b) (core (counts_asker t asker b))
 counts-asker {said} t asker b says = by (chain_end_for t.over asker b) refl
@@ -244,16 +245,7 @@ counts-asker {said} t asker b says = by (chain_end_for t.over asker b) refl
 -- ---- an asker is told
 
 after-asked : (m : WireMessage) (l : LookupValue) → (whole.after m l).asked ≡ l.asked
-after-asked m l = by (kept_of l.next l.dnssec m) (next_question l.next m.message)
-  where
-    going : (k : KeptValue) (next : Query) (b : Bool) → (if b then gone_on k next l else l).asked ≡ l.asked
-    going k next true = refl
-    going k next false = refl
-
-    by : (k : Option KeptValue) (next : Option Query) → (after_of k next l).asked ≡ l.asked
-    by None next = refl
-    by (Some k) None = refl
-    by (Some k) (Some next) = going k next (may_go_on l)
+after-asked m l = after-keeps (λ (x : LookupValue). x.asked) m l (λ k. refl) (λ k q. refl)
 
 -- a whole reply asks no question more
 whole-count : (m : WireMessage) (l : LookupValue) (kept : KeptValue) → heard m l ≡ heard_as.Whole kept
@@ -272,7 +264,7 @@ whole-count m l kept is = by (kept_of l.next l.dnssec m) (next_question l.next m
     by (Some k) None is = refl
     by (Some k) (Some next) is = going k next (may_go_on l) is
 
-heard-same : (over : OverValue) (second : ℕ) (f : FetchValue) → IsSame f (heard_so over second f)
+pub heard-same : (over : OverValue) (second : ℕ) (f : FetchValue) → IsSame f (heard_so over second f)
 heard-same over second f = record { waiting = refl; asked = by (response_of over) }
   where
     by : (o : Option WireMessage) → (option_map_or (λ m. whole.after m f.lookup) o f.lookup).asked ≡ f.lookup.asked
@@ -737,102 +729,3 @@ steps b a action h = by b.chain_end refl h
         (λ e. (action ≡ Some act.Continue) × (a ≡ keeps_chain_end e (without_chain_end b))) → StepMoves b a action
     by None is h = replies-first b a action h
     by (Some e) is h = step_stays (continues action h.0) (keeps-chain-end e b a is h.1)
-
--- ---- a step that is refused
-
-ends-for-memory : {said : Source → Type 0}
-    (key : List ℕ) (f g : FetchValue) (b a : ForwarderValue) → b.replying ≡ None
-    → fetch_at key b.fetches ≡ Some f → IsSame f g → EndsForMemory key g b a → Stills said (core b) (core a)
-ends-for-memory {said} key f g b a none found same h =
-    still-one (core b) (core a)
-    (finishes key (Failure reason.Other) f g b a none found same (has_failed reason.Other refl) h)
-
-stops-next : {said : Source → Type 0}
-    (t : TellingValue) (asker : ℕ) (b a : ForwarderValue) → b.replying ≡ None
-    → ((m : WireMessage) → response_of t.over ≡ Some m → said (told_reply (told-now m b))) → StopsNext t b a asker
-    → Stills said (core b) (core a)
-stops-next {said} t asker b a none says h =
-    more (core b) (core (counts_asker t asker b)) (core a) (counts-asker t asker b says)
-    (by (asked_for asker b.fetches) h)
-  where
-    by-key : (key : List ℕ) (o : Option FetchValue) → fetch_at key b.fetches ≡ o
-        → MatchOption o ⊥ (λ f. EndsForMemory key (heard_so t.over (second_of b) f)
-        (forgets_asker asker (counts_asker t asker b)) a)
-        → Stills said (core (counts_asker t asker b)) (core a)
-    by-key key None is h = absurd h
-    by-key key (Some f) is h =
-        ends-for-memory key f (heard_so t.over (second_of b) f)
-        (forgets_asker asker (counts_asker t asker b)) a none is
-        (heard-same t.over (second_of b) f) h
-
-    by : (o : Option (List ℕ))
-        → MatchOption o ⊥ (λ key. MatchOption (fetch_at key b.fetches) ⊥
-        (λ f. EndsForMemory key (heard_so t.over (second_of b) f)
-        (forgets_asker asker (counts_asker t asker b)) a)) → Stills said (core (counts_asker t asker b)) (core a)
-    by None h = absurd h
-    by (Some key) h = by-key key (fetch_at key b.fetches) refl h
-
-stops-telling : {said : Source → Type 0}
-    (t : TellingValue) (b a : ForwarderValue) → b.replying ≡ None
-    → ((m : WireMessage) → response_of t.over ≡ Some m → said (told_reply (told-now m b))) → StopsTelling b a t
-    → Stills said (core b) (core a)
-stops-telling {said} t b a none says (inl h) = as_before (core b) (core a) (ap core h)
-stops-telling {said} t b a none says (inr h) = by (slice_get t.over.askers t.told) h
-  where
-    by : (o : Option ℕ) → MatchOption o ⊥ (StopsNext t b a) → Stills said (core b) (core a)
-    by None h = absurd h
-    by (Some asker) h = stops-next t asker b a none says h
-
-stops-prefetching : {said : Source → Type 0}
-    (b a : ForwarderValue) → StopsPrefetchingFirst b a → Stills said (core b) (core a)
-stops-prefetching {said} b a h = by b.prefetch h
-  where
-    by : (o : Option (List ℕ)) → MatchOption o (a ≡ b) (λ key. a ≡ without_prefetch b) → Stills said (core b) (core a)
-    by None h = as_before (core b) (core a) (ap core h)
-    by (Some key) h = as_before (core b) (core a) (ap core h)
-
-stops-telling-first : (b a : ForwarderValue) → b.replying ≡ None → StopsTellingFirst b a
-    → Stills (IsSaid b) (core b) (core a)
-stops-telling-first b a none h = by b.telling refl h
-  where
-    by : (o : Option TellingValue) → b.telling ≡ o → MatchOption o (StopsPrefetchingFirst b a) (StopsTelling b a)
-        → Stills (IsSaid b) (core b) (core a)
-    by None is h = stops-prefetching b a h
-    by (Some t) is h = stops-telling t b a none (λ m told. (t, is, told, refl)) h
-
-stops-asking : (key : List ℕ) (b a : ForwarderValue) → b.replying ≡ None → StopsAsking b a key
-    → Stills (IsSaid b) (core b) (core a)
-stops-asking key b a none (inl h) = as_before (core b) (core a) (ap core h)
-stops-asking key b a none (inr h) = by (fetch_at key b.fetches) refl h
-  where
-    by : (o : Option FetchValue) → fetch_at key b.fetches ≡ o
-        → MatchOption o ⊥ (λ f. EndsForMemory key f (has_turn b) a) → Stills (IsSaid b) (core b) (core a)
-    by None is h = absurd h
-    by (Some f) is h = ends-for-memory key f f (has_turn b) a none is (same-fetch f) h
-
-stops-first : (b a : ForwarderValue) → b.replying ≡ None → StopsAskingFirst b a
-    → Stills (IsSaid b) (core b) (core a)
-stops-first b a none h = by (slice_get b.fetches.to_ask 0) h
-  where
-    by : (o : Option (List ℕ)) → MatchOption o (StopsTellingFirst b a) (StopsAsking b a)
-        → Stills (IsSaid b) (core b) (core a)
-    by None h = stops-telling-first b a none h
-    by (Some key) h = stops-asking key b a none h
-
-stops-replying-first : (b a : ForwarderValue) → StopsReplyingFirst b a → Stills (IsSaid b) (core b) (core a)
-stops-replying-first b a h = by b.replying refl h
-  where
-    by : (o : Option ReplyingValue) → b.replying ≡ o → MatchOption o (StopsAskingFirst b a) (IsLetGo b a)
-        → Stills (IsSaid b) (core b) (core a)
-    by None is stop = stops-first b a is stop
-    by (Some r) is stop =
-        still-one (core b) (core a) (is_let_go (core b) (core a) r is (none-first r.waiting stop.0) (ap core stop.1))
-
-pub is-refused : (b a : ForwarderValue) → StopsStep b a → Stills (IsSaid b) (core b) (core a)
-is-refused b a h = by b.chain_end h
-  where
-    by : (o : Option ChainEndValue) → MatchOption o (StopsReplyingFirst b a) (λ e. a ≡ without_chain_end b)
-        → Stills (IsSaid b) (core b) (core a)
-    by None stop = stops-replying-first b a stop
-    by (Some e) stop =
-        still-one (core b) (core a) (no_chain_ends (core b) (core a) (ap core stop))
