@@ -125,8 +125,10 @@ pub(crate) fn asks_alone(
     ensures asks { IfOk result (λ asks. AsksAlone second.now resolver.old asks) }
     ensures same { resolver.new ≡ resolver.old }
 {
-    let progress = start_alone(resolver, second)?;
-    Ok(waits_for_it(&second.query, &progress))
+    match start_alone(resolver, second) {
+        Ok(progress) => Ok(waits_for_it(&second.query, &progress)),
+        Err(AllocError) => Err(AllocError),
+    }
 }
 
 fn waits_for_it(query: &Query, progress: &CallProgress) -> bool
@@ -173,18 +175,20 @@ fn resume_for(
     ensures { ResumesFor query.now (progress_of progress) outcome resolver.old resolver.new }
 {
     match progress {
-        CallProgress::Waiting(call) => {
-            let waits = is_waited_for(query, &call);
-            resume_if(resolver, waits, call, outcome);
-        }
+        CallProgress::Waiting(call) => resume_waited_for(resolver, query, call, outcome),
         CallProgress::Done(_) => {}
     }
 }
 
-fn resume_if(resolver: &mut NetworkResolver, waits: bool, call: WaitingCall, outcome: Outcome)
-    ensures { ResumesIf waits call outcome resolver.old resolver.new }
+fn resume_waited_for(
+    resolver: &mut NetworkResolver,
+    query: &Query,
+    call: WaitingCall,
+    outcome: Outcome,
+)
+    ensures { ResumesIf (is_waited_for query.now call) call outcome resolver.old resolver.new }
 {
-    if waits {
+    if is_waited_for(query, &call) {
         drop(resolver.resume(call, outcome));
     }
 }
@@ -235,11 +239,19 @@ pub(crate) fn take(ahead: &mut Ahead) -> Ahead
     mem::replace(ahead, Ahead::Nothing)
 }
 
+// This is asked ahead from now on.
+pub(crate) fn put(place: &mut Ahead, ahead: Ahead)
+    ensures { place.new ≡ ahead }
+{
+    drop(mem::replace(place, ahead));
+}
+
 // The asker of what is asked ahead is told this.
 pub(crate) fn tell(ahead: &mut Ahead, outcome: Outcome)
     ensures { ahead.new ≡ told_ahead outcome ahead.old }
 {
-    *ahead = told(take(ahead), outcome);
+    let told = told(take(ahead), outcome);
+    put(ahead, told);
 }
 
 fn told(ahead: Ahead, outcome: Outcome) -> Ahead
@@ -257,7 +269,7 @@ pub(crate) fn let_go(ahead: &mut Ahead)
     ensures { ahead.new ≡ untold (λ q. true) ahead.old }
 {
     if matches!(ahead, Ahead::Told(_, _)) {
-        *ahead = Ahead::Nothing;
+        drop(take(ahead));
     }
 }
 
@@ -266,7 +278,7 @@ pub(crate) fn let_go_of(ahead: &mut Ahead, attempted: &[Attempted])
     ensures { ahead.new ≡ untold (λ q. list_any (λ a. query_eq a.question q) attempted.now) ahead.old }
 {
     if is_told_of(ahead, attempted) {
-        *ahead = Ahead::Nothing;
+        drop(take(ahead));
     }
 }
 

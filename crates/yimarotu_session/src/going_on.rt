@@ -21,8 +21,15 @@ pub(crate) fn go_on(
 )
     ensures { Resumed outcome resolver.old held.old resolver.new held.new }
 {
-    let gone = CallProgress::Done(Err(NetError::NoOutcome));
-    *held = resumed(resolver, mem::replace(held, gone), outcome);
+    let resumed = resumed(resolver, take(held), outcome);
+    drop(mem::replace(held, resumed));
+}
+
+// A call leaves its place for as long as it is worked on. One that is done stands there meanwhile.
+fn take(held: &mut CallProgress) -> CallProgress
+    ensures { result ≡ held.old }
+{
+    mem::replace(held, CallProgress::Done(Err(NetError::NoOutcome)))
 }
 
 fn resumed(

@@ -11,7 +11,9 @@ ghost use Rattle.yimarotu_session.specs.LookupTables.{BeginsAt, ChangesAhead, Dr
 ghost use Rattle.yimarotu_session.specs.NetworkSteps.{GoesOnAt};
 ghost use Rattle.yimarotu_session.specs.Sessions.{PutsUnder};
 
-use crate::ahead::{Ahead, SecondQuestion, asker_ahead, is_ahead, let_go, let_go_of, take, tell};
+use crate::ahead::{
+    Ahead, SecondQuestion, asker_ahead, is_ahead, let_go, let_go_of, put, take, tell,
+};
 use crate::network_lookup::{
     NetworkLookup, announce, asker_of, go_on, is_same, is_unannounced, question_ahead,
     question_to_ask, wait_for,
@@ -246,7 +248,7 @@ impl LookupTable {
             (with_asker asker number (table_of self.old)) (table_of self.new) }
     {
         if let Some(ahead) = self.ahead.get_mut(&number) {
-            *ahead = Ahead::Waits(second, asker);
+            put(ahead, Ahead::Waits(second, asker));
         }
         self.insert_asker(asker, number);
     }
@@ -353,8 +355,8 @@ impl LookupTable {
         self.to_announce.front().copied()
     }
 
-    // The first that is to be announced leaves the queue, and is told whether it is done and was not announced. Nothing
-    // is asked ahead of it any more.
+    // The first that is to be announced leaves the queue. Tells whether it is done and was not announced; then nothing is
+    // asked ahead of it any more.
     pub(crate) fn announce(&mut self, number: u64) -> bool
         requires { HasRoomToForget self.old }
         ensures told { result ≡ is_unannounced (held_at number (table_of self.old)) }

@@ -47,11 +47,26 @@ pub(crate) fn lookup_of(progress: CallProgress) -> NetworkLookup
 pub(crate) fn go_on(resolver: &mut NetworkResolver, lookup: &mut NetworkLookup, outcome: Outcome)
     ensures { GoesOn outcome resolver.old lookup.old resolver.new lookup.new }
 {
+    let gone_on = gone_on(resolver, take(lookup), outcome);
+    put(lookup, gone_on);
+}
+
+// A look-up leaves its place for as long as it is worked on. One that is done stands there meanwhile.
+fn take(lookup: &mut NetworkLookup) -> NetworkLookup
+    ensures { result ≡ lookup.old }
+{
     let gone = NetworkLookup::Done {
         found: Err(NetError::NoOutcome),
         announced: true,
     };
-    *lookup = gone_on(resolver, mem::replace(lookup, gone), outcome);
+    mem::replace(lookup, gone)
+}
+
+// It comes into its place again.
+fn put(place: &mut NetworkLookup, lookup: NetworkLookup)
+    ensures { place.new ≡ lookup }
+{
+    drop(mem::replace(place, lookup));
 }
 
 fn gone_on(resolver: &mut NetworkResolver, lookup: NetworkLookup, outcome: Outcome) -> NetworkLookup
@@ -125,11 +140,8 @@ pub(crate) fn is_same(asker: &Asker, other: Option<Asker>) -> bool
 pub(crate) fn wait_for(lookup: &mut NetworkLookup, asker: Asker)
     ensures { lookup.new ≡ asked_by asker lookup.old }
 {
-    let gone = NetworkLookup::Done {
-        found: Err(NetError::NoOutcome),
-        announced: true,
-    };
-    *lookup = asked_by(asker, mem::replace(lookup, gone));
+    let asked = asked_by(asker, take(lookup));
+    put(lookup, asked);
 }
 
 fn asked_by(asker: Asker, lookup: NetworkLookup) -> NetworkLookup

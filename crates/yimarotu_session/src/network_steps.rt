@@ -8,7 +8,7 @@ ghost use Rattle.hickory_resolver_tries.specs.Question.{question_of};
 ghost use Rattle.yimarotu_session.specs.LookupTables.{HasRoomToAsk, held_at, table_of};
 ghost use Rattle.yimarotu_session.specs.Messages.{whole_query};
 ghost use Rattle.yimarotu_session.specs.NetworkSessions.{TellingValue, forgotten_by_pool};
-ghost use Rattle.yimarotu_session.specs.NetworkSteps.{Announces, AsksAhead, AsksFor, AsksOther, AsksOwn, AsksPool, AsksSecond, IsAnswered, IsAskedAhead, SessionSteps, StepsPool, Tells, TellsAhead, TellsAsker, TellsLookup, TellsOther, action_of, forgotten, no_dnssec, one_more};
+ghost use Rattle.yimarotu_session.specs.NetworkSteps.{Announces, AsksAhead, AsksFor, AsksIf, AsksOther, AsksOwn, AsksPool, AsksSecond, IsAnswered, IsAskedAhead, SessionSteps, StepsPool, Tells, TellsAhead, TellsAsker, TellsLookup, TellsOther, action_of, forgotten, no_dnssec, one_more};
 ghost use Rattle.yimarotu_session.specs.declared.network_lookup.NetworkLookup.TheVariants.{Asks};
 
 use crate::ahead::{Ahead, SecondQuestion, asks_alone, hear_ahead};
@@ -21,7 +21,7 @@ use hickory_resolver_pool::{Action, Asked, Asker, DnssecOptions};
 use std::alloc::AllocError;
 
 // Asking tells the pool no moment: this counts as the latest that was told.
-const LATEST: u64 = 0;
+const NO_MOMENT: u64 = 0;
 
 impl NetworkSession {
     /// Does the next step, and answers what the program has to do for it; `None` where nothing is left to be done. Who
@@ -142,7 +142,17 @@ impl NetworkSession {
         ensures ok { OnOk result (AsksSecond number self.old self.new second) }
         ensures err { OnErr result (self.new ≡ self.old) }
     {
-        if asks_alone(&mut self.resolver, &second)? {
+        match asks_alone(&mut self.resolver, &second) {
+            Ok(asks) => self.ask_if(asks, number, second),
+            Err(AllocError) => Err(AllocError),
+        }
+    }
+
+    fn ask_if(&mut self, asks: bool, number: u64, second: SecondQuestion) -> Result<(), AllocError>
+        ensures ok { OnOk result (AsksIf asks number second self.old self.new) }
+        ensures err { OnErr result (self.new ≡ self.old) }
+    {
+        if asks {
             return self.ask_ahead(number, second);
         }
         self.table.pop_to_ask();
@@ -307,7 +317,7 @@ fn ask_pool(pool: &mut Pool, query: Query, options: DnsRequestOptions) -> Result
         checking_disabled: false,
         authentic_data: false,
     };
-    match pool.ask(GROUP, query, options, dnssec, LATEST) {
+    match pool.ask(GROUP, query, options, dnssec, NO_MOMENT) {
         Ok(asked) => Ok(asked),
         Err(_) => Err(AllocError),
     }
