@@ -32,6 +32,7 @@ pub mod Kept
 pub mod KeyEntries
 pub mod KeySets
 pub mod Keys
+pub mod Later
 pub mod Left
 pub mod Lex
 pub mod Listed

@@ -1,11 +1,11 @@
 -- Each reply that a forwarder makes an answer of was believed.
-use Rattle.std.proofs.Common.{◌≡◌, ◌∙◌, ℕ, inl, inr, true, List, [], ◌∷◌, refl, sym, ap, subst}
+use Rattle.std.proofs.Common.{◌≡◌, ◌∙◌, ℕ, inl, inr, true, List, [], ◌∷◌, ◌++◌, refl, sym, ap, subst}
 use Rattle.std.specs.Prelude.{Option, None, Some, cond}
 use Rattle.std.specs.Option.{option_and_then}
 use Rattle.hickory_proto_wire.specs.declared.wire_message.WireMessage.{WireMessage}
 use Rattle.hickory_resolver_config.specs.ResolverConfig.{OptionsValue as PoolOptions}
 use Rattle.hickory_resolver_flights.specs.Flights.{KeptValue}
-use Rattle.hickory_resolver_pool.specs.Laws.{after_event}
+use Rattle.hickory_resolver_pool.specs.Laws.{PoolEvent, after_event}
 use Rattle.hickory_resolver_pool.specs.Over.{OverValue, is_of_reply}
 use Rattle.hickory_resolver_pool.specs.Pool.{PoolState, no_servers}
 use Rattle.hickory_resolver_pool.specs.Pool as in_pool
@@ -14,6 +14,7 @@ use Rattle.hickory_resolver_pool.specs.declared.over.PoolOutcome.{PoolOutcome}
 use Rattle.hickory_resolver_pool.specs.declared.over.PoolOutcome.TheVariants.{Code, Cut, Overloaded, Response, Timeout, Unreachable}
 use Rattle.hickory_resolver_pool.specs.declared.pool.Action.{Action}
 use Rattle.hickory_resolver_pool.specs.declared.pool.Action.TheVariants as does
+use Rattle.hickory_resolver_pool_theorems.proofs.Later.{over-grows}
 use Rattle.hickory_resolver_pool_theorems.proofs.MadeUp.{nothing_is_made_up}
 use Rattle.hickory_resolver_pool_theorems.specs.MadeUp.{HasBelievedReply}
 use Rattle.hickory_resolver_pool_theorems.specs.Runs as pool
@@ -25,49 +26,65 @@ use Rattle.yimarotu_forwarder.specs.Steps.{telling_of}
 use Rattle.yimarotu_forwarder.specs.Telling.{response_in, response_of}
 use Rattle.yimarotu_forwarder_theorems.specs.Believed.{RepliesWereBelieved, WasBelieved}
 use Rattle.yimarotu_forwarder_theorems.specs.Lookups.{ToldReply, WasTold}
-use Rattle.yimarotu_forwarder_theorems.specs.Runs.{Happening, Runs, at_first, next}
-use Rattle.yimarotu_forwarder_theorems.proofs.Pools.{Goes, PoolGoes, goes, near_by, pool_goes, pool_stays, pool_steps}
+use Rattle.yimarotu_forwarder_theorems.specs.Runs.{ForwarderEvent, Happening, Runs, at_first, happened, next, octets_by, octets_of_servers}
+use Rattle.yimarotu_forwarder_theorems.proofs.Pools.{Goes, PoolGoes, TellsSame, goes, near_by, octets_go, pool_goes, pool_stays, pool_steps}
 
 module _ (options : PoolOptions) (limits : PoolLimits) (seed : List ℕ) where
   abbrev start : PoolState
   start = no_servers options limits seed
 
-  -- what had happened to a pool
-  pub record Past (p : PoolState) : Type 0 where
-    pub past : List pool.Happening
-    pub runs : pool.Runs start past p
+  abbrev IsBelievedOver : List pool.Happening → OverValue → Type 0
+  IsBelievedOver past o = (m : WireMessage) → response_of o ≡ Some m → WasBelieved start past m
 
-  abbrev IsBelievedOver : OverValue → Type 0
-  IsBelievedOver o = (m : WireMessage) → response_of o ≡ Some m → WasBelieved start m
+  -- what was believed stays so, whatever happens later
+  grown : (more past : List pool.Happening) (m : WireMessage) → WasBelieved start past m
+      → WasBelieved start (more ++ past) m
+  grown more past m b = record {
+    over = b.over;
+    was_over = over-grows start more past b.over b.was_over;
+    reply = b.reply;
+    believed = b.believed;
+    spells = b.spells;
+  }
 
-  -- what happened later
-  went : (p q : PoolState) → PoolGoes p q → Past p → Past q
-  went p q (pool_stays p' q' same) h = subst Past (sym same) h
-  went p q (pool_goes p' q' e rest) h =
-      went (after_event p e) q rest
-      (record { past = pool.came p e ∷ h.past; runs = pool.by_event h.past p e h.runs })
+  -- what happened to a pool after this
+  pub record Later (past : List pool.Happening) (came : List PoolEvent) (p : PoolState) : Type 0 where
+    pub more : List pool.Happening
+    pub runs : pool.Runs start (more ++ past) p
+    pub are : pool.octets_in (more ++ past) ≡ came
+
+  went : (past : List pool.Happening) (came : List PoolEvent) (p q : PoolState) → PoolGoes p q → Later past came p
+      → Later past came q
+  went past came p q (pool_stays p' q' same) h = subst (Later past came) (sym same) h
+  went past came p q (pool_goes p' q' e none rest) h =
+      went past came (after_event p e) q rest
+      (record {
+        more = pool.came p e ∷ h.more;
+        runs = pool.by_event (h.more ++ past) p e h.runs;
+        are = ap (λ (l : List PoolEvent). l ++ pool.octets_in (h.more ++ past)) none ∙ h.are;
+      })
 
   -- a transaction that is over with a reply
-  was-over : (p q : PoolState) (o : OverValue) → in_pool.Steps p (Some (does.Over o)) q → Past p → IsBelievedOver o
-  was-over p q o steps h m is = by o.outcome refl o.kept refl is
+  was-over : (past : List pool.Happening) (p q : PoolState) (o : OverValue) → in_pool.Steps p (Some (does.Over o)) q
+      → pool.Runs start past p → IsBelievedOver (pool.did p (Some (does.Over o)) ∷ past) o
+  was-over past p q o steps runs m is = by o.outcome refl o.kept refl is
     where
-      found : (k : KeptValue) → o.kept ≡ Some k → o.outcome ≡ Response → k.message ≡ Some m → WasBelieved start m
+      found : (k : KeptValue) → o.kept ≡ Some k → o.outcome ≡ Response → k.message ≡ Some m
+          → WasBelieved start (pool.did p (Some (does.Over o)) ∷ past) m
       found k kept response spells =
           let reply : is_of_reply o.outcome ≡ true = ap is_of_reply response in
-          let made = nothing_is_made_up options limits seed h.past p q o h.runs steps reply in
+          let made = nothing_is_made_up options limits seed past p q o runs steps reply in
           record {
-            past = h.past;
-            reached = p;
-            runs = h.runs;
             over = o;
+            was_over = record { later = []; earlier = past; before = p; after = q; happened = refl; runs = runs; ends = steps };
             reply = k;
-            believed = subst (HasBelievedReply h.past o) kept made;
+            believed = subst (HasBelievedReply past o) kept made;
             spells = spells;
           }
 
       by : (what : PoolOutcome) → o.outcome ≡ what → (kept : Option KeptValue) → o.kept ≡ kept
           → response_in what (option_and_then (λ k. k.message) (cond (is_of_reply what) kept None)) ≡ Some m
-          → WasBelieved start m
+          → WasBelieved start (pool.did p (Some (does.Over o)) ∷ past) m
       by Response response None kept e = absurd cc
       by Response response (Some k) kept e = found k kept response e
       by Cut response kept' kept e = absurd cc
@@ -76,59 +93,86 @@ module _ (options : PoolOptions) (limits : PoolLimits) (seed : List ℕ) where
       by Timeout response kept' kept e = absurd cc
       by Overloaded response kept' kept e = absurd cc
 
-  pub record Stands (s : ForwarderValue) : Type 0 where
-    pub below : Past s.pool
-    pub telling : (t : TellingValue) → s.telling ≡ Some t → IsBelievedOver t.over
+  -- what is told is of a transaction that was over so, and so was each that was told
+  pub record Stands (past : List Happening) (s : ForwarderValue) : Type 0 where
+    pub pool_past : List pool.Happening
+    pub runs : pool.Runs start pool_past s.pool
+    pub came : pool.octets_in pool_past ≡ octets_of_servers past
+    pub telling : (t : TellingValue) → s.telling ≡ Some t → IsBelievedOver pool_past t.over
+    pub told : (r : ToldReply) → WasTold past r → WasBelieved start pool_past r.message
 
-  stepped : (b a : ForwarderValue) (did : Option Action) → in_pool.Steps b.pool did a.pool
-      → a.telling ≡ telling_of did → Stands b → Stands a
-  stepped b a did steps told h = record {
-    below = record { past = pool.did b.pool did ∷ h.below.past; runs = pool.by_step h.below.past b.pool a.pool did steps h.below.runs };
-    telling = λ t is. by did steps t (sym told ∙ is);
-  }
-    where
-      by : (r : Option Action) → in_pool.Steps b.pool r a.pool → (t : TellingValue) → telling_of r ≡ Some t
-          → IsBelievedOver t.over
-      by None s t is = absurd cc
-      by (Some (does.Open x)) s t is = absurd cc
-      by (Some (does.Send x)) s t is = absurd cc
-      by (Some (does.Close x)) s t is = absurd cc
-      by (Some does.Continue) s t is = absurd cc
-      by (Some (does.Over o)) s t is =
-          let same : o ≡ t.over = cc in
-          subst IsBelievedOver same (was-over b.pool a.pool o s h.below)
+  module _ (past : List Happening) (event : ForwarderEvent) (b a : ForwarderValue) (h : Stands past b) where
+    stands-on : (more : List pool.Happening) → pool.Runs start (more ++ h.pool_past) a.pool
+        → pool.octets_in (more ++ h.pool_past) ≡ octets_by event ++ octets_of_servers past
+        → ((t : TellingValue) → a.telling ≡ Some t → IsBelievedOver (more ++ h.pool_past) t.over)
+        → Stands (happened event b a ∷ past) a
+    stands-on more runs came telling = record {
+      pool_past = more ++ h.pool_past;
+      runs = runs;
+      came = came;
+      telling = telling;
+      told = λ r w. by r w;
+    }
+      where
+        by : (r : ToldReply) → WasTold (happened event b a ∷ past) r → WasBelieved start (more ++ h.pool_past) r.message
+        by r (inl (t, is, response, second)) = grown more h.pool_past r.message (h.telling t is r.message response)
+        by r (inr told) = grown more h.pool_past r.message (h.told r told)
 
-  goes-on : (b a : ForwarderValue) → Goes b a → Stands b → Stands a
-  goes-on b a (near_by near) h = record {
-    below = went b.pool a.pool near.goes h.below;
-    telling = λ t is.
-        let found = near.tells t is in
-        subst IsBelievedOver (sym found.2) (h.telling found.0 found.1);
-  }
-  goes-on b a (pool_steps did steps told) h = stepped b a did steps told h
+    -- what is told stays, or nothing is
+    tells-on : (more : List pool.Happening) → TellsSame b.telling a.telling → (t : TellingValue) → a.telling ≡ Some t
+        → IsBelievedOver (more ++ h.pool_past) t.over
+    tells-on more same t is =
+        let found = same t is in
+        subst (IsBelievedOver (more ++ h.pool_past)) (sym found.2)
+        (λ m response. grown more h.pool_past m (h.telling found.0 found.1 m response))
+
+    stepped : (did : Option Action) → in_pool.Steps b.pool did a.pool → a.telling ≡ telling_of did
+        → (t : TellingValue) → a.telling ≡ Some t → IsBelievedOver (pool.did b.pool did ∷ h.pool_past) t.over
+    stepped did steps told t is = by did steps (sym told ∙ is)
+      where
+        by : (r : Option Action) → in_pool.Steps b.pool r a.pool → telling_of r ≡ Some t
+            → IsBelievedOver (pool.did b.pool r ∷ h.pool_past) t.over
+        by None s is = absurd cc
+        by (Some (does.Open x)) s is = absurd cc
+        by (Some (does.Send x)) s is = absurd cc
+        by (Some (does.Close x)) s is = absurd cc
+        by (Some does.Continue) s is = absurd cc
+        by (Some (does.Over o)) s is =
+            let same : o ≡ t.over = cc in
+            subst (IsBelievedOver (pool.did b.pool (Some (does.Over o)) ∷ h.pool_past)) same
+            (was-over h.pool_past b.pool a.pool o s h.runs)
+
+    goes-on : (came : List PoolEvent) → octets_by event ≡ came → Goes b a came → Stands (happened event b a ∷ past) a
+    goes-on came is (near_by near) =
+        let l = went h.pool_past (octets_of_servers past) b.pool a.pool near.goes (record { more = []; runs = h.runs; are = h.came }) in
+        stands-on l.more l.runs
+        (l.are ∙ ap (λ (l : List PoolEvent). l ++ octets_of_servers past) (sym is)) (tells-on l.more near.tells)
+    goes-on came is (octets_go e pool_is tells) =
+        let more : List pool.Happening = pool.came b.pool e ∷ [] in
+        stands-on more
+        (subst (λ (p : PoolState). pool.Runs start (more ++ h.pool_past) p) (sym pool_is) (pool.by_event h.pool_past b.pool e h.runs))
+        (ap (λ (l : List PoolEvent). pool.octets_of e ++ l) h.came
+        ∙ ap (λ (l : List PoolEvent). l ++ octets_of_servers past) (sym is))
+        (tells-on more tells)
+    goes-on came is (pool_steps did steps told) =
+        stands-on (pool.did b.pool did ∷ []) (pool.by_step h.pool_past b.pool a.pool did steps h.runs)
+        (h.came ∙ ap (λ (l : List PoolEvent). l ++ octets_of_servers past) (sym is)) (stepped did steps told)
 
   module _ (own : OptionsValue) (local : LocalValue) (cache failures : CacheBounds) where
     stands : (past : List Happening) (s : ForwarderValue) → Runs (new_forwarder own local cache failures start) past s
-        → Stands s
+        → Stands past s
     stands past s at_first = record {
-      below = record { past = []; runs = pool.at_first };
+      pool_past = [];
+      runs = pool.at_first;
+      came = refl;
       telling = λ t is. absurd cc;
+      told = λ r told. absurd told;
     }
     stands past s (next earlier event before after happens runs) =
-        goes-on before after (goes event before after happens) (stands earlier before runs)
-
-    was-told : (past : List Happening) (s : ForwarderValue) → Runs (new_forwarder own local cache failures start) past s
-        → (r : ToldReply) → WasTold past r → WasBelieved start r.message
-    was-told past s at_first r told = absurd told
-    was-told past s (next earlier event before after happens runs) r (inl (t, is, response, second)) =
-        (stands earlier before runs).telling t is r.message response
-    was-told past s (next earlier event before after happens runs) r (inr told) = was-told earlier before runs r told
+        goes-on earlier event before after (stands earlier before runs) (octets_by event) refl
+        (goes event before after happens)
 
 pub replies_were_believed : RepliesWereBelieved
 replies_were_believed own local cache failures options limits seed past s runs =
     let here = stands options limits seed own local cache failures past s runs in
-    record {
-      pool_past = here.below.past;
-      runs = here.below.runs;
-      believed = was-told options limits seed own local cache failures past s runs;
-    }
+    record { pool_past = here.pool_past; runs = here.runs; came = here.came; believed = here.told }

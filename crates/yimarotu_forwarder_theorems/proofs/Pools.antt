@@ -1,5 +1,5 @@
 -- What happens to the pool under a forwarder, and what it tells.
-use Rattle.std.proofs.Common.{◌≡◌, ◌∙◌, ◌==◌, ℕ, inl, inr, Bool, true, false, List, refl, sym, ap, subst}
+use Rattle.std.proofs.Common.{◌≡◌, ◌∙◌, ◌==◌, ℕ, inl, inr, Bool, true, false, List, [], refl, sym, ap, subst}
 use Rattle.std.specs.Prelude.{Option, None, Some, MatchOption, length, slice_get, if◌then◌else◌}
 use Rattle.hickory_proto_core.specs.declared.query.Query.{Query}
 use Rattle.hickory_proto_wire.specs.Messages.{bit}
@@ -12,6 +12,7 @@ use Rattle.hickory_resolver_pool.specs.Pool as in_pool
 use Rattle.hickory_resolver_pool.specs.declared.pool.Action.{Action}
 use Rattle.hickory_resolver_pool.specs.declared.pool.Asked as pool_asked
 use Rattle.hickory_resolver_pool.specs.declared.pool.Asked.TheVariants as asked
+use Rattle.hickory_resolver_pool_theorems.specs.Runs.{octets_of}
 use Rattle.client_queries.specs.declared.query.Refusal.{Refusal}
 use Rattle.client_queries.specs.declared.query.Refusal.TheVariants as refusal
 use Rattle.client_queries.specs.declared.query.Verdict.{Verdict}
@@ -50,14 +51,14 @@ use Rattle.yimarotu_forwarder.specs.declared.answered.Answered.{Answered}
 use Rattle.yimarotu_forwarder.specs.declared.answered.Answered.TheVariants.{Dropped}
 use Rattle.yimarotu_forwarder.specs.declared.steps.ForwarderAction.{ForwarderAction}
 use Rattle.yimarotu_forwarder.specs.declared.steps.ForwarderAction.TheVariants as act
-use Rattle.yimarotu_forwarder_theorems.specs.Runs.{ForwarderEvent, Happens, all_is_cleared, channel_fails as fails_channel, client_is_gone, is_stepped, local_data_is, name_is_flushed, octets_come as octets_came, options_are, query_comes, query_is_refused, servers_are, step_is_refused, time_passes as moment_comes}
+use Rattle.yimarotu_forwarder_theorems.specs.Runs.{ForwarderEvent, Happens, octets_by, all_is_cleared, channel_fails as fails_channel, client_is_gone, is_stepped, local_data_is, name_is_flushed, octets_come as octets_came, options_are, query_comes, query_is_refused, servers_are, step_is_refused, time_passes as moment_comes}
 
 -- ---- what happens to a pool
 
--- events, one after another, or a step that says of no transaction that it is over
+-- events, one after another, none of them octets that come
 pub data PoolGoes : PoolState → PoolState → Type 0 where
   pool_stays : (p q : PoolState) → q ≡ p → PoolGoes p q
-  pool_goes : (p q : PoolState) (e : PoolEvent) → PoolGoes (after_event p e) q → PoolGoes p q
+  pool_goes : (p q : PoolState) (e : PoolEvent) → octets_of e ≡ [] → PoolGoes (after_event p e) q → PoolGoes p q
 
 abbrev pool-of : ForwarderValue → PoolState
 pool-of s = s.pool
@@ -74,10 +75,11 @@ pub record Near (b a : ForwarderValue) : Type 0 where
   pub goes : PoolGoes b.pool a.pool
   pub tells : TellsSame b.telling a.telling
 
--- so it is, or a step of the pool was done
-pub data Goes (b a : ForwarderValue) : Type 0 where
-  near_by : Near b a → Goes b a
-  pool_steps : (did : Option Action) → in_pool.Steps b.pool did a.pool → a.telling ≡ telling_of did → Goes b a
+-- so it is, or octets came from a server, or a step of the pool was done; with the octets that came
+pub data Goes (b a : ForwarderValue) : List PoolEvent → Type 0 where
+  near_by : Near b a → Goes b a []
+  octets_go : (e : PoolEvent) → a.pool ≡ after_event b.pool e → TellsSame b.telling a.telling → Goes b a (octets_of e)
+  pool_steps : (did : Option Action) → in_pool.Steps b.pool did a.pool → a.telling ≡ telling_of did → Goes b a []
 
 tells-same : (b a : Option TellingValue) → a ≡ b → TellsSame b a
 tells-same b a same t is = (t, sym same ∙ is, refl)
@@ -94,7 +96,7 @@ after-asking : (group : ℕ) (q : Query) (dnssec unchecked : Bool) (b a : Forwar
 after-asking group q dnssec unchecked b a near = record {
   goes =
       pool_goes b.pool a.pool
-      (is_asked group q (request_options_of b.pool.options) (dnssec_of dnssec unchecked b) b.clock) near.goes;
+      (is_asked group q (request_options_of b.pool.options) (dnssec_of dnssec unchecked b) b.clock) refl near.goes;
   tells = near.tells;
 }
 
@@ -256,7 +258,7 @@ module _ {b0 : ForwarderValue} {answered : Answered} {a0 : ForwarderValue} {r0 :
 
 -- time passed first
 ticked : (now : ℕ) (b a : ForwarderValue) → Near (at_moment now b) a → Near b a
-ticked now b a near = record { goes = pool_goes b.pool a.pool (time_passes now) near.goes; tells = near.tells }
+ticked now b a near = record { goes = pool_goes b.pool a.pool (time_passes now) refl near.goes; tells = near.tells }
 
 query-near : (c : Client) (octets : List ℕ) (now : ℕ) (answered : Answered) (b a : ForwarderValue)
     → AnswersQuery c octets now b answered a → Near b a
@@ -424,42 +426,42 @@ let-go r b a h = by (r.generation == b.generation) r.end h
     by true (Failure why) h = same b a (ap telling-in h) (ap pool-of h)
     by false end h = same b a (ap telling-in h) (ap pool-of h)
 
-steps-goes : (action : Option ForwarderAction) (b a : ForwarderValue) → ForwarderSteps b action a → Goes b a
+steps-goes : (action : Option ForwarderAction) (b a : ForwarderValue) → ForwarderSteps b action a → Goes b a []
 steps-goes action b a h = by-end b.chain_end h
   where
     by-late : (key : Option (List ℕ))
-        → MatchOption key (StepsPool b action a) (λ key. (action ≡ Some act.Continue) × TellsLate b a key) → Goes b a
+        → MatchOption key (StepsPool b action a) (λ key. (action ≡ Some act.Continue) × TellsLate b a key) → Goes b a []
     by-late None h = pool_steps h.did h.steps (ap telling-in h.others_are)
     by-late (Some key) h = near_by (tells-late key b a h.1)
 
     by-prefetch : (key : Option (List ℕ))
-        → MatchOption key (TellsLateFirst b action a) (λ key. (action ≡ Some act.Continue) × Prefetches b a key) → Goes b a
+        → MatchOption key (TellsLateFirst b action a) (λ key. (action ≡ Some act.Continue) × Prefetches b a key) → Goes b a []
     by-prefetch None h = by-late (first_due b) h
     by-prefetch (Some key) h = near_by (prefetches key b a h.1)
 
     by-telling : (t : Option TellingValue) → b.telling ≡ t
-        → MatchOption t (PrefetchesFirst b action a) (λ t. (action ≡ Some act.Continue) × Tells b a t) → Goes b a
+        → MatchOption t (PrefetchesFirst b action a) (λ t. (action ≡ Some act.Continue) × Tells b a t) → Goes b a []
     by-telling None is h = by-prefetch b.prefetch h
     by-telling (Some t) is h = near_by (tells t b a is h.1)
 
     by-turn : (key : Option (List ℕ))
-        → MatchOption key (TellsFirst b action a) (λ key. (action ≡ Some act.Continue) × AsksFor b a key) → Goes b a
+        → MatchOption key (TellsFirst b action a) (λ key. (action ≡ Some act.Continue) × AsksFor b a key) → Goes b a []
     by-turn None h = by-telling b.telling refl h
     by-turn (Some key) h = near_by (asks-for key b a h.1)
 
     replies : (r : ReplyingValue) (w : Option RequestValue)
-        → MatchOption w ((action ≡ Some act.Continue) × (a ≡ lets_go r b)) (RepliesTo r b action a) → Goes b a
+        → MatchOption w ((action ≡ Some act.Continue) × (a ≡ lets_go r b)) (RepliesTo r b action a) → Goes b a []
     replies r None h = near_by (let-go r b a h.1)
     replies r (Some w) h = near_by (same b a (ap telling-in h.1) (ap pool-of h.1))
 
     by-replying : (r : Option ReplyingValue)
-        → MatchOption r (AsksFirst b action a) (RepliesNext b action a) → Goes b a
+        → MatchOption r (AsksFirst b action a) (RepliesNext b action a) → Goes b a []
     by-replying None h = by-turn (slice_get b.fetches.to_ask 0) h
     by-replying (Some r) h = replies r (slice_get r.waiting 0) h
 
     by-end : (e : Option ChainEndValue)
         → MatchOption e (RepliesFirst b action a)
-        (λ e. (action ≡ Some act.Continue) × (a ≡ keeps_chain_end e (without_chain_end b))) → Goes b a
+        (λ e. (action ≡ Some act.Continue) × (a ≡ keeps_chain_end e (without_chain_end b))) → Goes b a []
     by-end None h = by-replying b.replying h
     by-end (Some e) h = near_by (keeps-chain-end e b a h.1)
 
@@ -527,23 +529,24 @@ stops-near b a h = by-end b.chain_end h
 -- ---- all that may happen
 
 -- an event of the pool alone
-by-event : (e : PoolEvent) (b a : ForwarderValue) → a.pool ≡ after_event b.pool e → a.telling ≡ b.telling → Near b a
-by-event e b a pool telling = record {
-  goes = pool_goes b.pool a.pool e (pool_stays (after_event b.pool e) a.pool pool);
+by-event : (e : PoolEvent) → octets_of e ≡ [] → (b a : ForwarderValue) → a.pool ≡ after_event b.pool e
+    → a.telling ≡ b.telling → Near b a
+by-event e none b a pool telling = record {
+  goes = pool_goes b.pool a.pool e none (pool_stays (after_event b.pool e) a.pool pool);
   tells = tells-same b.telling a.telling telling;
 }
 
-pub goes : (event : ForwarderEvent) (b a : ForwarderValue) → Happens event b a → Goes b a
+pub goes : (event : ForwarderEvent) (b a : ForwarderValue) → Happens event b a → Goes b a (octets_by event)
 goes (query_comes c octets now answered) b a h = near_by (query-near c octets now answered b a h)
-goes (query_is_refused now) b a h = near_by (by-event (time_passes now) b a (ap pool-of h) (ap telling-in h))
+goes (query_is_refused now) b a h = near_by (by-event (time_passes now) refl b a (ap pool-of h) (ap telling-in h))
 goes (client_is_gone client) b a h = near_by (same b a (ap telling-in h) (ap pool-of h))
 goes (octets_came channel octets now) b a h =
-    near_by (by-event (octets_come channel octets now) b a (ap pool-of h) (ap telling-in h))
+    octets_go (octets_come channel octets now) (ap pool-of h) (tells-same b.telling a.telling (ap telling-in h))
 goes (fails_channel failure now) b a h =
-    near_by (by-event (channel_fails failure now) b a (ap pool-of h) (ap telling-in h))
-goes (moment_comes now) b a h = near_by (by-event (time_passes now) b a (ap pool-of h) (ap telling-in h))
+    near_by (by-event (channel_fails failure now) refl b a (ap pool-of h) (ap telling-in h))
+goes (moment_comes now) b a h = near_by (by-event (time_passes now) refl b a (ap pool-of h) (ap telling-in h))
 goes (servers_are group servers) b a h =
-    near_by (by-event (group_has group servers) b a (ap pool-of h) (ap telling-in h))
+    near_by (by-event (group_has group servers) refl b a (ap pool-of h) (ap telling-in h))
 goes (local_data_is local) b a h = near_by (same b a (ap telling-in h) (ap pool-of h))
 goes (options_are options) b a h = near_by (same b a (ap telling-in h) (ap pool-of h))
 goes (name_is_flushed domain below) b a h = near_by (same b a (ap telling-in h) (ap pool-of h))

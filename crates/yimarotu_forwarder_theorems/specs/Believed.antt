@@ -1,5 +1,5 @@
 -- Each reply that a forwarder makes an answer of is octets that came from a server and were believed.
-use Rattle.std.specs.Prelude.{◌≡◌, ℕ, List, Some}
+use Rattle.std.specs.Prelude.{◌≡◌, ℕ, List, [], Some}
 use Rattle.hickory_proto_wire.specs.declared.wire_message.WireMessage.{WireMessage}
 use Rattle.hickory_resolver_config.specs.ResolverConfig.{OptionsValue as PoolOptions}
 use Rattle.hickory_resolver_flights.specs.Flights.{KeptValue}
@@ -7,30 +7,31 @@ use Rattle.hickory_resolver_pool.specs.Over.{OverValue}
 use Rattle.hickory_resolver_pool.specs.Pool.{PoolState, no_servers}
 use Rattle.hickory_resolver_pool.specs.declared.limits.PoolLimits.{PoolLimits}
 use Rattle.hickory_resolver_pool_theorems.specs.MadeUp.{IsBelievedReply}
+use Rattle.hickory_resolver_pool_theorems.specs.Runs.{WasOver}
 use Rattle.hickory_resolver_pool_theorems.specs.Runs as pool
 use Rattle.second_chance_cache.specs.declared.bounds.CacheBounds.{CacheBounds}
 use Rattle.yimarotu_forwarder.specs.Forwarders.{ForwarderValue, new_forwarder}
 use Rattle.yimarotu_forwarder.specs.Local.{LocalValue}
 use Rattle.yimarotu_forwarder.specs.Options.{OptionsValue}
 use Rattle.yimarotu_forwarder_theorems.specs.Lookups.{ToldReply, WasTold}
-use Rattle.yimarotu_forwarder_theorems.specs.Runs.{Happening, Runs}
+use Rattle.yimarotu_forwarder_theorems.specs.Runs.{Happening, Runs, octets_of_servers}
 
--- Once this had happened to the pool, a transaction of it was over with a reply that spells this message: octets that
--- came on the channel on which the question was sent, and were believed as a reply to it.
-pub record WasBelieved (start : PoolState) (m : WireMessage) : Type 0 where
-  pub past : List pool.Happening
-  pub reached : PoolState
-  pub runs : pool.Runs start past reached
+-- Among this, which happened to the pool, it said of a transaction that it is over, with a reply that spells this
+-- message: octets that came on the channel on which the question was sent, and were believed as a reply to it.
+pub record WasBelieved (start : PoolState) (past : List pool.Happening) (m : WireMessage) : Type 0 where
   pub over : OverValue
+  pub was_over : WasOver start past over
   pub reply : KeptValue
-  pub believed : IsBelievedReply past over.transaction over.question over.outcome reply
+  pub believed : IsBelievedReply was_over.earlier over.transaction over.question over.outcome reply
   pub spells : reply.message ≡ Some m
 
--- The pool of a forwarder is one as the pool's own laws have it, and each reply that it told was believed.
+-- The pool of a forwarder is one as the pool's own laws have it. The octets that came to it are those that came to the
+-- forwarder from servers, and each reply that it told was believed.
 pub record StandsOnPool (start : PoolState) (past : List Happening) (s : ForwarderValue) : Type 0 where
   pub pool_past : List pool.Happening
   pub runs : pool.Runs start pool_past s.pool
-  pub believed : (r : ToldReply) → WasTold past r → WasBelieved start r.message
+  pub came : pool.octets_in pool_past ≡ octets_of_servers past
+  pub believed : (r : ToldReply) → WasTold past r → WasBelieved start pool_past r.message
 
 abbrev pub RepliesWereBelieved : Type 0
 RepliesWereBelieved =

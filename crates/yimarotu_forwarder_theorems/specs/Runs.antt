@@ -1,6 +1,8 @@
 -- What happened to a forwarder, one thing after another.
-use Rattle.std.specs.Prelude.{◌≡◌, ℕ, Bool, List, [], ◌∷◌, Option}
+use Rattle.std.specs.Prelude.{◌≡◌, ℕ, Bool, List, [], ◌∷◌, ◌++◌, Option}
 use Rattle.hickory_proto_core.specs.Name.{NameValue}
+use Rattle.hickory_resolver_pool.specs.Laws.{PoolEvent}
+use Rattle.hickory_resolver_pool.specs.Laws as pool
 use Rattle.hickory_resolver_pool.specs.Pool.{after_octets, after_servers}
 use Rattle.hickory_resolver_pool.specs.Servers.{PoolServerValue}
 use Rattle.hickory_resolver_traffic.specs.declared.inbox.ChannelFailure.{ChannelFailure}
@@ -58,3 +60,13 @@ pub data Runs (start : ForwarderValue) : List Happening → ForwarderValue → T
   at_first : Runs start [] start
   next : (past : List Happening) (event : ForwarderEvent) (before after : ForwarderValue)
       → Happens event before after → Runs start past before → Runs start (happened event before after ∷ past) after
+
+-- an event is that octets of a server come, as the pool is told, or it is none of these
+abbrev pub octets_by : ForwarderEvent → List PoolEvent
+octets_by (octets_come channel octets now) = pool.octets_come channel octets now ∷ []
+octets_by other = []
+
+-- the octets that came from servers, each with its channel and its moment, the latest first
+abbrev pub octets_of_servers : List Happening → List PoolEvent
+octets_of_servers [] = []
+octets_of_servers (happened event before after ∷ past) = octets_by event ++ octets_of_servers past

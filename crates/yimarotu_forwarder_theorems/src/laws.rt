@@ -11,8 +11,9 @@ pub fn questions_have_queues()
     ensures { QuestionsHaveQueues }
 {}
 
-/// Each request that was told to wait is replied to once. Of the requests of a client that was never gone, those for
-/// each question that were told to wait are those that were replied to since, in their order, and then those that wait.
+/// Each request that was told to wait is replied to once at the most. Of the requests of a client that was never gone,
+/// those for each question that were told to wait are those that were replied to since, in their order, and then those
+/// that wait.
 pub fn each_is_replied_to_once()
     ensures { EachIsRepliedToOnce }
 {}
@@ -42,8 +43,9 @@ pub fn answers_are_of_replies()
     ensures { AnswersAreOfReplies }
 {}
 
-/// The pool of a forwarder is one as the pool's own laws have it, whatever happens; and each reply that it told was
-/// believed: octets that came on the channel on which its question was sent, and that spell it.
+/// The pool of a forwarder is one as the pool's own laws have it, whatever happens, and the octets that came to it are
+/// those that came to the forwarder. Each reply that it told was believed: octets that came to it before on the channel
+/// on which its question was sent, and that spell it.
 pub fn replies_were_believed()
     ensures { RepliesWereBelieved }
 {}

@@ -40,7 +40,18 @@ pub from-equal : (first : PoolState) (past : List Happening) (p q : PoolQuestion
     → question_eq p q ≡ true → IsFromPool first past q outcome → IsFromPool first past p outcome
 from-equal first past p q outcome same (inl t) =
     inl (record { over = t.over; was_over = t.was_over; same = equal-then p q t.over.question same t.same; told = t.told; read = t.read })
-from-equal first past p q outcome same (inr refused) = inr refused
+from-equal first past p q outcome same (inr r) =
+    inr (record {
+      later = r.later;
+      earlier = r.earlier;
+      before = r.before;
+      query = r.query;
+      options = r.options;
+      now = r.now;
+      happened = r.happened;
+      same = equal-then p q (question_of r.query r.options no_dnssec) same r.same;
+      told = r.told;
+    })
 
 -- the same bits and size are sent with names, types and classes that are so
 abbrev sent-alike : PoolQuestion → PoolQuestion → Bool → Bool

@@ -1,5 +1,5 @@
 -- A look-up whose turn it is asks its question, or one ahead.
-use Rattle.std.proofs.Common.{◌≡◌, ◌∙◌, ℕ, nat_eq, Bool, true, false, cond, List, ◌++◌, refl, sym, ap, subst, inl, inr}
+use Rattle.std.proofs.Common.{◌≡◌, ◌∙◌, ℕ, nat_eq, Bool, true, false, cond, List, [], ◌++◌, refl, sym, ap, subst, inr}
 use Rattle.std.specs.Prelude.{MatchOption, Option, None, Some}
 use Rattle.std.specs.Option.{option_and_then, option_map}
 use Rattle.hickory_proto_core.specs.Handles.{OutcomeValue}
@@ -30,17 +30,17 @@ use Rattle.yimarotu_session.specs.declared.ahead.Ahead.TheVariants.{Nothing, Tol
 use Rattle.yimarotu_session.specs.declared.ahead.SecondQuestion.{SecondQuestion}
 use Rattle.yimarotu_session.specs.declared.network_lookup.NetworkLookup.{NetworkLookup}
 use Rattle.yimarotu_session.specs.declared.network_lookup.NetworkLookup.TheVariants.{Asks, Asked, Done}
-use Rattle.yimarotu_session_theorems.specs.NetworkLaws.{IsFromPool, question_with}
+use Rattle.yimarotu_session_theorems.specs.NetworkLaws.{IsFromPool, IsToldOfRefusal, question_with}
 use Rattle.yimarotu_session_theorems.proofs.AskedAhead.{IsFoundAhead, equal-questions, equal-self, equal-then, found-ahead, from-equal}
 use Rattle.yimarotu_session_theorems.proofs.Going.{gone-on-at, none-done, own-places, passed, puts-lookup}
-use Rattle.yimarotu_session_theorems.proofs.Kept.{AreAhead, AreAskedFor, IsAhead, IsAskedFor, IsTelling, Kept, Lookups, Places, PlacesLess, PoolMoves, ahead-grows, ahead-on, alike, asked-on, call_at, call_of, first, keeps, keeps-telling, lookups-same, options, places-less, places-same, pool-stays, pool-takes, question_for}
+use Rattle.yimarotu_session_theorems.proofs.Kept.{AreAhead, AreAskedFor, IsAhead, IsAskedFor, IsTelling, Kept, Lookups, Places, PlacesLess, PoolMoves, ahead-grows, ahead-on, alike, asked-on, call_at, call_of, ends-put-undone, ends-same, first, keeps, keeps-telling, lookups-same, options, places-less, places-same, pool-stays, pool-takes, question_for}
 use Rattle.yimarotu_session_theorems.proofs.Moves.{stays}
 
 module _ (resolver : ResolverValue (List OutcomeValue)) (limits : PoolLimits) (seed : List ℕ) where
   abbrev Resolver : Type 0
   Resolver = ResolverValue (List OutcomeValue)
 
-  module _ (s : NetworkValue) (k : Kept resolver limits seed s) (after : NetworkValue) where
+  module _ (brought : List PoolEvent) (s : NetworkValue) (k : Kept resolver limits seed brought s) (after : NetworkValue) where
     -- ---- a question is asked
 
     -- with these options, which the resolver keeps
@@ -90,42 +90,68 @@ module _ (resolver : ResolverValue (List OutcomeValue)) (limits : PoolLimits) (s
         subst (λ (t : Option TellingValue). IsTelling resolver limits seed past after.table t) (sym (stays ∙ none)) tt
 
     -- a look-up that waits to ask waits for an asker
-    waits-for : (p : PoolMoves resolver limits seed k.past s.pool after.pool) (n : ℕ) (w : WaitingCallValue) (b : Asker)
+    waits-for : (p : PoolMoves resolver limits seed [] k.past s.pool after.pool) (n : ℕ) (w : WaitingCallValue) (b : Asker)
         → s.telling ≡ None → after.telling ≡ s.telling → value_at n s.table.lookups ≡ Some (Asks w)
         → after.resolver ≡ s.resolver → PutsUnder n (Some (Asked w b)) s.table.lookups after.table.lookups
         → PlacesLess resolver limits seed (p.later ++ k.past) s.table.ahead after.table.ahead
         → IsAskedFor resolver limits seed after.pool (question_with (options resolver limits seed) w) b
-        → Kept resolver limits seed after
+        → Kept resolver limits seed brought after
     waits-for p n w b none stays there same puts places new =
-        keeps resolver limits seed s k after p
-        (none-done resolver limits seed s k after (p.later ++ k.past) same
+        keeps resolver limits seed brought s k after p
+        (none-done resolver limits seed brought s k after (p.later ++ k.past) same
         (alike n (Some w) (call_at s.table.lookups) (call_at after.table.lookups) (ap (λ (h : Option NetworkLookup). option_and_then call_of h) there)
-        (puts-lookup resolver limits seed s k after n (Asked w b) (Some w) refl puts)))
-        (asked-too n w b new puts p.asked) (ahead-on resolver limits seed s k after p places)
+        (puts-lookup resolver limits seed brought s k after n (Asked w b) (Some w) refl puts))
+        (ends-put-undone [] n (Some (Asked w b)) s.table.lookups after.table.lookups
+        (λ found c e. let clash : Some (Asked w b) ≡ Some (Done found c) = e in absurd cc) puts))
+        (asked-too n w b new puts p.asked) (ahead-on resolver limits seed brought s k after p places)
         (told-none (p.later ++ k.past) none stays)
 
     asks-pool : (n : ℕ) (w : WaitingCallValue) → s.telling ≡ None → value_at n s.table.lookups ≡ Some (Asks w)
-        → AsksPool w n s after → Kept resolver limits seed after
+        → AsksPool w n s after → Kept resolver limits seed brought after
     asks-pool n w none there a = by (pool_says (whole_query w.lookup.hop.query) s) refl a.answered
       where
-        p : PoolMoves resolver limits seed k.past s.pool after.pool
-        p = pool-takes resolver limits seed s k after (asking (whole_query w.lookup.hop.query)) a.pool_is
+        p : PoolMoves resolver limits seed [] k.past s.pool after.pool
+        p = pool-takes resolver limits seed brought s k after (asking (whole_query w.lookup.hop.query)) a.pool_is
 
-        refused : (outcome : OutcomeValue) → GoesOnAt outcome n s.resolver (first_asked s.table) after.resolver after.table
-            → ((v : WaitingCallValue) → call_at s.table.lookups n ≡ Some v → IsFromPool (first resolver limits seed) (p.later ++ k.past) (question_with (options resolver limits seed) v) outcome) → Kept resolver limits seed after
-        refused outcome goes from =
-            let went = gone-on-at resolver limits seed s k after (p.later ++ k.past) n outcome (first_asked s.table) refl (own-places resolver limits seed s k after (p.later ++ k.past)) from goes in
-            keeps-telling resolver limits seed s k after p went.played went.less a.telling_stays
+        from : (said : pool_asked.Asked) → pool_says (whole_query w.lookup.hop.query) s ≡ said → (outcome : OutcomeValue)
+            → IsToldOfRefusal said outcome → (v : WaitingCallValue) → call_at s.table.lookups n ≡ Some v
+            → IsFromPool (first resolver limits seed) (p.later ++ k.past) (question_with (options resolver limits seed) v) outcome
+        from said says outcome told v is =
+            let call : call_at s.table.lookups n ≡ Some w = ap (λ (h : Option NetworkLookup). option_and_then call_of h) there in
+            let one : Some w ≡ Some v = sym call ∙ is in
+            let own : w ≡ v = cc in
+            subst (λ (x : WaitingCallValue). IsFromPool (first resolver limits seed) (p.later ++ k.past) (question_with (options resolver limits seed) x) outcome) own
+            (inr (record {
+              later = [];
+              earlier = k.past;
+              before = s.pool;
+              query = whole_query w.lookup.hop.query;
+              options = own_options;
+              now = 0;
+              happened = refl;
+              same =
+                  subst (λ (o : DnsRequestOptions). question_eq (question_of (whole_query w.lookup.hop.query) o no_dnssec) (question_of (whole_query w.lookup.hop.query) own_options no_dnssec) ≡ true) options-stay
+                  (equal-self (question_of (whole_query w.lookup.hop.query) own_options no_dnssec));
+              told = subst (λ (a : pool_asked.Asked). IsToldOfRefusal a outcome) (sym says) told;
+            }))
+
+        refused : (said : pool_asked.Asked) → pool_says (whole_query w.lookup.hop.query) s ≡ said → (outcome : OutcomeValue)
+            → IsToldOfRefusal said outcome
+            → GoesOnAt outcome n s.resolver (first_asked s.table) after.resolver after.table
+            → Kept resolver limits seed brought after
+        refused said says outcome told goes =
+            let went = gone-on-at resolver limits seed brought s k after (p.later ++ k.past) n outcome (first_asked s.table) refl (own-places resolver limits seed brought s k after (p.later ++ k.past)) (from said says outcome told) goes in
+            keeps-telling resolver limits seed brought s k after p went.played went.less a.telling_stays
 
         by : (said : pool_asked.Asked) → pool_says (whole_query w.lookup.hop.query) s ≡ said
-            → IsAnswered said w n s.resolver s.table after.resolver after.table → Kept resolver limits seed after
+            → IsAnswered said w n s.resolver s.table after.resolver after.table → Kept resolver limits seed brought after
         by (asked.Asker b) says (same, waits) =
             waits-for p n w b none a.telling_stays there same waits.puts
             (places-same resolver limits seed (p.later ++ k.past) s.table.ahead after.table.ahead
             (ap (λ (t : TableValue). t.ahead) waits.others_are))
             (new-asked (whole_query w.lookup.hop.query) b a.pool_is says)
-        by asked.Overloaded says r = refused r.outcome r.goes_on (λ v is. inr (inl r.told))
-        by asked.NoServers says r = refused r.outcome r.goes_on (λ v is. inr (inr r.told))
+        by asked.Overloaded says r = refused asked.Overloaded says r.outcome r.told r.goes_on
+        by asked.NoServers says r = refused asked.NoServers says r.outcome r.told r.goes_on
 
     -- ---- its question was asked ahead
 
@@ -143,10 +169,10 @@ module _ (resolver : ResolverValue (List OutcomeValue)) (limits : PoolLimits) (s
     takes-over : (n : ℕ) (w : WaitingCallValue) (q : SecondQuestion) (b : Asker) → s.telling ≡ None
         → value_at n s.table.lookups ≡ Some (Asks w)
         → IsFoundAhead (whole_query w.lookup.hop.query) (ahead_at n s.table) (Waits q b) → TakesOver w b n s after
-        → Kept resolver limits seed after
+        → Kept resolver limits seed brought after
     takes-over n w q b none there f h =
-        let p = pool-stays resolver limits seed s k after (ap (λ (x : NetworkValue). x.pool) h.others_stay) in
-        let is = ahead-grows resolver limits seed s k after p (Waits q b) (k.ahead n (Waits q b) f.there) in
+        let p = pool-stays resolver limits seed brought s k after (ap (λ (x : NetworkValue). x.pool) h.others_stay) in
+        let is = ahead-grows resolver limits seed brought s k after p (Waits q b) (k.ahead n (Waits q b) f.there) in
         let lookups : h.mid.lookups ≡ s.table.lookups = ap (λ (t : TableValue). t.lookups) h.empties.others_stay in
         let places : after.table.ahead ≡ h.mid.ahead = ap (λ (t : TableValue). t.ahead) h.waits.others_are in
         waits-for p n w b none (ap (λ (x : NetworkValue). x.telling) h.others_stay) there
@@ -164,26 +190,26 @@ module _ (resolver : ResolverValue (List OutcomeValue)) (limits : PoolLimits) (s
     uses-told : (n : ℕ) (w : WaitingCallValue) (q : Query) (outcome : OutcomeValue)
         → value_at n s.table.lookups ≡ Some (Asks w)
         → IsFoundAhead (whole_query w.lookup.hop.query) (ahead_at n s.table) (Told q outcome) → UsesTold outcome n s after
-        → Kept resolver limits seed after
+        → Kept resolver limits seed brought after
     uses-told n w q outcome there f h =
-        let p = pool-stays resolver limits seed s k after (ap (λ (x : NetworkValue). x.pool) h.others_stay) in
+        let p = pool-stays resolver limits seed brought s k after (ap (λ (x : NetworkValue). x.pool) h.others_stay) in
         let call : call_at s.table.lookups n ≡ Some w = ap (λ (x : Option NetworkLookup). option_and_then call_of x) there in
         let from = from-equal (first resolver limits seed) k.past (question_with (options resolver limits seed) w) (question_for resolver limits seed q) outcome (same-question w q f.same) (k.ahead n (Told q outcome) f.there) in
-        let went = gone-on-at resolver limits seed s k after k.past n outcome (first_asked h.mid) (ap (λ (t : TableValue). t.lookups) h.empties.others_stay)
+        let went = gone-on-at resolver limits seed brought s k after k.past n outcome (first_asked h.mid) (ap (λ (t : TableValue). t.lookups) h.empties.others_stay)
         (emptied-less k.past n (Told q outcome) h.mid f.there h.empties)
         (λ v is.
         let one : Some w ≡ Some v = sym call ∙ is in
         let own : w ≡ v = cc in
         subst (λ (x : WaitingCallValue). IsFromPool (first resolver limits seed) k.past (question_with (options resolver limits seed) x) outcome) own from)
         h.goes_on in
-        keeps-telling resolver limits seed s k after p went.played went.less (ap (λ (x : NetworkValue). x.telling) h.others_stay)
+        keeps-telling resolver limits seed brought s k after p went.played went.less (ap (λ (x : NetworkValue). x.telling) h.others_stay)
 
     asks-own : (n : ℕ) (w : WaitingCallValue) → s.telling ≡ None → value_at n s.table.lookups ≡ Some (Asks w)
-        → AsksOwn w n s after → Kept resolver limits seed after
+        → AsksOwn w n s after → Kept resolver limits seed brought after
     asks-own n w none there h = by (ahead_of (whole_query w.lookup.hop.query) (ahead_at n s.table)) refl h
       where
         by : (found : Ahead) → ahead_of (whole_query w.lookup.hop.query) (ahead_at n s.table) ≡ found
-            → AsksBy found w n s after → Kept resolver limits seed after
+            → AsksBy found w n s after → Kept resolver limits seed brought after
         by Nothing e h = asks-pool n w none there h
         by (Waits q b) e h =
             takes-over n w q b none there
@@ -206,24 +232,25 @@ module _ (resolver : ResolverValue (List OutcomeValue)) (limits : PoolLimits) (s
         by false e = grows x (k.ahead m x e)
 
     asks-ahead : (n : ℕ) → s.telling ≡ None → (q : SecondQuestion) → AsksAhead n q s after
-        → Kept resolver limits seed after
+        → Kept resolver limits seed brought after
     asks-ahead n none q h = by (pool_says q.query s) refl h.asked
       where
-        p : PoolMoves resolver limits seed k.past s.pool after.pool
-        p = pool-takes resolver limits seed s k after (asking q.query) h.pool_is
+        p : PoolMoves resolver limits seed [] k.past s.pool after.pool
+        p = pool-takes resolver limits seed brought s k after (asking q.query) h.pool_is
 
         kept : after.table.lookups ≡ s.table.lookups
-            → AreAhead resolver limits seed (p.later ++ k.past) after.pool after.table.ahead → Kept resolver limits seed after
+            → AreAhead resolver limits seed (p.later ++ k.past) after.pool after.table.ahead → Kept resolver limits seed brought after
         kept lookups ahead =
-            keeps resolver limits seed s k after p
-            (none-done resolver limits seed s k after (p.later ++ k.past) (ap (λ (x : NetworkValue). x.resolver) h.others_stay) (λ m. ap (λ (l : Lookups). call_at l m) lookups))
-            (asked-on resolver limits seed s k after p (lookups-same s.table.lookups after.table.lookups lookups)) ahead
+            keeps resolver limits seed brought s k after p
+            (none-done resolver limits seed brought s k after (p.later ++ k.past) (ap (λ (x : NetworkValue). x.resolver) h.others_stay) (λ m. ap (λ (l : Lookups). call_at l m) lookups)
+            (ends-same [] s.table.lookups after.table.lookups lookups))
+            (asked-on resolver limits seed brought s k after p (lookups-same s.table.lookups after.table.lookups lookups)) ahead
             (told-none (p.later ++ k.past) none (ap (λ (x : NetworkValue). x.telling) h.others_stay))
 
-        stays : after.table ≡ first_asked s.table → Kept resolver limits seed after
+        stays : after.table ≡ first_asked s.table → Kept resolver limits seed brought after
         stays same =
             kept (ap (λ (t : TableValue). t.lookups) same)
-            (ahead-on resolver limits seed s k after p
+            (ahead-on resolver limits seed brought s k after p
             (places-same resolver limits seed (p.later ++ k.past) s.table.ahead after.table.ahead (ap (λ (t : TableValue). t.ahead) same)))
 
         new : (b : Asker) → pool_says q.query s ≡ asked.Asker b → (place : Option Ahead) (x : Ahead)
@@ -234,35 +261,35 @@ module _ (resolver : ResolverValue (List OutcomeValue)) (limits : PoolLimits) (s
             subst (λ (z : Ahead). IsAhead resolver limits seed (p.later ++ k.past) after.pool z) same (new-asked q.query b h.pool_is says)
 
         by : (said : pool_asked.Asked) → pool_says q.query s ≡ said → IsAskedAhead said q n s.table after.table
-            → Kept resolver limits seed after
+            → Kept resolver limits seed brought after
         by (asked.Asker b) says c =
             kept (ap (λ (t : TableValue). t.lookups) c.others_stay)
             (ahead-too (p.later ++ k.past) n (option_map (λ nothing. Waits q b) (ahead_at n s.table))
-            (new b says (ahead_at n s.table)) c.puts (ahead-grows resolver limits seed s k after p))
+            (new b says (ahead_at n s.table)) c.puts (ahead-grows resolver limits seed brought s k after p))
         by asked.Overloaded says same = stays same
         by asked.NoServers says same = stays same
 
     -- where a look-up of it alone would ask it
     asks-second : (n : ℕ) → s.telling ≡ None → (q : SecondQuestion) → AsksSecond n s after q
-        → Kept resolver limits seed after
+        → Kept resolver limits seed brought after
     asks-second n none q h = by h.asks h.goes_on
       where
-        by : (asks : Bool) → AsksIf asks n q s after → Kept resolver limits seed after
+        by : (asks : Bool) → AsksIf asks n q s after → Kept resolver limits seed brought after
         by true h = asks-ahead n none q h
-        by false same = passed resolver limits seed s k after (first_asked s.table) refl refl same
+        by false same = passed resolver limits seed brought s k after (first_asked s.table) refl refl same
 
     asks-other : (n : ℕ) (held : Option NetworkLookup) → s.telling ≡ None → AsksOther held n s after
-        → Kept resolver limits seed after
+        → Kept resolver limits seed brought after
     asks-other n held none h = by (question_ahead s.resolver held (ahead_at n s.table)) h
       where
         by : (q : Option SecondQuestion)
             → MatchOption q (after ≡ record s { table = first_asked s.table }) (AsksSecond n s after)
-            → Kept resolver limits seed after
-        by None same = passed resolver limits seed s k after (first_asked s.table) refl refl same
+            → Kept resolver limits seed brought after
+        by None same = passed resolver limits seed brought s k after (first_asked s.table) refl refl same
         by (Some q) h = asks-second n none q h
 
     pub asks : (n : ℕ) → s.telling ≡ None → (held : Option NetworkLookup) → value_at n s.table.lookups ≡ held
-        → AsksAs held n s after → Kept resolver limits seed after
+        → AsksAs held n s after → Kept resolver limits seed brought after
     asks n none None there h = asks-other n None none h
     asks n none (Some (Asks w)) there a = asks-own n w none there a
     asks n none (Some (Asked w a)) there h = asks-other n (Some (Asked w a)) none h

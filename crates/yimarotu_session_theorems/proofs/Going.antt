@@ -1,5 +1,5 @@
 -- What a step does to the resolver: nothing, or a look-up begins, goes on, or is dropped.
-use Rattle.std.proofs.Common.{◌≡◌, ◌∙◌, ℕ, Bool, true, false, List, [], ◌∷◌, refl, sym, ap, subst}
+use Rattle.std.proofs.Common.{◌≡◌, ◌∙◌, ℕ, Bool, true, false, List, [], ◌∷◌, refl, sym, ap, subst, inl, inr}
 use Rattle.std.specs.Prelude.{MatchOption, Option, None, Some}
 use Rattle.std.specs.Option.{option_and_then}
 use Rattle.hickory_proto_core.specs.Handles.{OutcomeValue}
@@ -9,9 +9,10 @@ use Rattle.hickory_resolver_model.specs.Cache.{CacheValue}
 use Rattle.hickory_resolver_model.specs.Resolver.{ResolverValue}
 use Rattle.hickory_resolver_model.specs.Resuming.{IsDone, Waits}
 use Rattle.hickory_resolver_model.specs.Run.{Call, name_call}
+use Rattle.hickory_resolver_pool.specs.Laws.{PoolEvent}
 use Rattle.hickory_resolver_pool.specs.declared.limits.PoolLimits.{PoolLimits}
 use Rattle.hickory_resolver_pool_theorems.specs.Runs.{Happening}
-use Rattle.hickory_resolver_theorems.specs.InterleavedCalls.{CallDropped, CallEventValue, CallFed, CallStarted}
+use Rattle.hickory_resolver_theorems.specs.InterleavedCalls.{PendingCallValue, CallDropped, CallEventValue, CallFed, CallStarted}
 use Rattle.hickory_resolver_theorems.specs.ResumingCalls.{CallProgressValue, WaitingCallValue}
 use Rattle.yimarotu_session.specs.Ahead.{Hears, ResumesFor, ResumesIf, StartsAlone, is_waited_for}
 use Rattle.yimarotu_session.specs.LookupTables.{TableValue, held_at}
@@ -22,14 +23,14 @@ use Rattle.yimarotu_session.specs.declared.ahead.SecondQuestion.{SecondQuestion}
 use Rattle.yimarotu_session.specs.declared.network_lookup.NetworkLookup.{NetworkLookup}
 use Rattle.yimarotu_session.specs.declared.network_lookup.NetworkLookup.TheVariants.{Asks, Asked, Done}
 use Rattle.yimarotu_session_theorems.specs.NetworkLaws.{IsFedFrom, IsFromPool, question_with}
-use Rattle.yimarotu_session_theorems.proofs.Kept.{AsksLess, Done-to, Kept, Lookups, LookupsLess, Places, PlacesLess, alike, asks-same, call-of-lookup, call_at, call_of, first, keeps-telling, lookup-not-asked, lookups-less, lookups-same, options, places-same, pool-stays, puts-calls}
+use Rattle.yimarotu_session_theorems.proofs.Kept.{AsksLess, Done-to, EndsLess, Kept, Lookups, LookupsLess, Places, PlacesLess, alike, asks-same, call-of-lookup, call_at, call_of, ends-put, ends-same, feeds-done, first, keeps-telling, lookup-not-asked, lookups-less, lookups-same, options, places-same, pool-stays, puts-calls}
 use Rattle.yimarotu_session_theorems.proofs.Moves.{Comes-and-goes, Puts, begins, drops, feeds, heard, over, stays, unheard, waiting_in}
 
 module _ (resolver : ResolverValue (List OutcomeValue)) (limits : PoolLimits) (seed : List ℕ) where
   abbrev pub Resolver : Type 0
   Resolver = ResolverValue (List OutcomeValue)
 
-  module _ (s : NetworkValue) (k : Kept resolver limits seed s) (after : NetworkValue) where
+  module _ (brought : List PoolEvent) (s : NetworkValue) (k : Kept resolver limits seed brought s) (after : NetworkValue) where
     abbrev cache : CacheValue
     cache = s.resolver.client.cache
 
@@ -40,7 +41,7 @@ module _ (resolver : ResolverValue (List OutcomeValue)) (limits : PoolLimits) (s
     later = call_at after.table.lookups
 
     abbrev pub Played : List Happening → Type 0
-    Played past = Done-to resolver limits seed s k after past
+    Played past = Done-to resolver limits seed brought s k after past
 
     -- this outcome is from the pool, to the question of a call
     abbrev pub From : List Happening → WaitingCallValue → OutcomeValue → Type 0
@@ -51,20 +52,28 @@ module _ (resolver : ResolverValue (List OutcomeValue)) (limits : PoolLimits) (s
 
     -- ---- what was done to the resolver
 
-    pub none-done : (past : List Happening) → after.resolver ≡ s.resolver → ((n : ℕ) → later n ≡ waiting n) → Played past
-    none-done past same waits = record {
+    -- look-ups that are done were so before, or a call came to what they came to
+    abbrev pub Ends : List CallEventValue → Type 0
+    Ends told = EndsLess told s.table.lookups after.table.lookups
+
+    pub none-done : (past : List Happening) → after.resolver ≡ s.resolver → ((n : ℕ) → later n ≡ waiting n) → Ends []
+        → Played past
+    none-done past same waits ends = record {
       told = [];
       moves = stays resolver cache k.flights waiting k.flying after.resolver later (same ∙ k.after_is) waits;
       fed = tt;
+      ends = ends;
     }
 
     pub started : (past : List Happening) (n : ℕ) (call : Call) (now : ℕ) (progress : CallProgressValue) → waiting n ≡ None
-        → StartsAt now call s.resolver progress after.resolver → Puts n (waiting_in progress) waiting later → Played past
-    started past n call now progress free starts puts = record {
+        → StartsAt now call s.resolver progress after.resolver → Puts n (waiting_in progress) waiting later
+        → Ends (CallStarted call now progress ∷ []) → Played past
+    started past n call now progress free starts puts ends = record {
       told = CallStarted call now progress ∷ [];
       moves = begins resolver cache k.flights waiting k.flying after.resolver later n call now progress free
           (subst (λ (r : Resolver). StartsAt now call r progress after.resolver) k.after_is starts) puts;
       fed = (tt, tt);
+      ends = ends;
     }
 
     -- what is told of a call that comes and goes
@@ -76,8 +85,13 @@ module _ (resolver : ResolverValue (List OutcomeValue)) (limits : PoolLimits) (s
         Comes-and-goes resolver cache k.flights waiting k.flying after.resolver later (IsFed past) waits call now (λ p. tt) (λ c. tt)
 
     passing : (past : List Happening) (call : Call) (now : ℕ) (waits : (n : ℕ) → later n ≡ waiting n)
-        → Passing past call now waits → Played past
-    passing past call now waits p = record { told = p.told; moves = p.moves; fed = p.all }
+        → after.table.lookups ≡ s.table.lookups → Passing past call now waits → Played past
+    passing past call now waits same p = record {
+      told = p.told;
+      moves = p.moves;
+      fed = p.all;
+      ends = ends-same p.told s.table.lookups after.table.lookups same;
+    }
 
     abbrev StartsOwn : Call → ℕ → CallProgressValue → Type 0
     StartsOwn call now progress = StartsAt now call (over resolver cache) progress (over resolver cache)
@@ -85,19 +99,22 @@ module _ (resolver : ResolverValue (List OutcomeValue)) (limits : PoolLimits) (s
     -- a look-up of one question is started, goes on with this where it asks that, and is let go
     pub heard-alone : (past : List Happening) (q : SecondQuestion) (outcome : OutcomeValue)
         → ((w : WaitingCallValue) → is_waited_for q.query w ≡ true → From past w outcome)
-        → Hears q outcome s.resolver after.resolver → ((n : ℕ) → later n ≡ waiting n) → Played past
-    heard-alone past q outcome from h waits = by-start h.starts
+        → Hears q outcome s.resolver after.resolver → after.table.lookups ≡ s.table.lookups → Played past
+    heard-alone past q outcome from h lookups = by-start h.starts
       where
+        waits : (n : ℕ) → later n ≡ waiting n
+        waits n = ap (λ (l : Lookups). call_at l n) lookups
+
         unheard-by : (call : Call) (p : CallProgressValue) → StartsOwn call q.started p → after.resolver ≡ s.resolver
             → Played past
         unheard-by call p starts same =
-            passing past call q.started waits
+            passing past call q.started waits lookups
             (unheard resolver cache k.flights waiting k.flying after.resolver later (IsFed past) waits call q.started (λ p. tt) (λ c. tt) p starts (same ∙ k.after_is))
 
         by-test : (call : Call) (w : WaitingCallValue) (b : Bool) → is_waited_for q.query w ≡ b
             → StartsOwn call q.started (Waits w) → ResumesIf b w outcome s.resolver after.resolver → Played past
         by-test call w true is starts (progress, resumes) =
-            passing past call q.started waits
+            passing past call q.started waits lookups
             (heard resolver cache k.flights waiting k.flying after.resolver later (IsFed past) waits call q.started (λ p. tt) (λ c. tt) w outcome progress starts
             (subst (λ (r : Resolver). ResumesAt w outcome r progress after.resolver) k.after_is resumes) (from w is))
         by-test call w false is starts same = unheard-by call (Waits w) starts same
@@ -114,18 +131,19 @@ module _ (resolver : ResolverValue (List OutcomeValue)) (limits : PoolLimits) (s
 
     pub fed : (past : List Happening) (n : ℕ) (w : WaitingCallValue) (outcome : OutcomeValue) (progress : CallProgressValue)
         → waiting n ≡ Some w → ResumesAt w outcome s.resolver progress after.resolver
-        → Puts n (waiting_in progress) waiting later → From past w outcome → Played past
-    fed past n w outcome progress there resumes puts from =
+        → Puts n (waiting_in progress) waiting later → From past w outcome
+        → ((c : PendingCallValue) → Ends (CallFed c outcome progress ∷ [])) → Played past
+    fed past n w outcome progress there resumes puts from ends =
         let f = feeds resolver cache k.flights waiting k.flying after.resolver later n w outcome progress there
         (subst (λ (r : Resolver). ResumesAt w outcome r progress after.resolver) k.after_is resumes) puts in
         let own = subst (λ (v : WaitingCallValue). From past v outcome) (sym f.waits) from in
-        record { told = CallFed f.call outcome f.progress ∷ []; moves = f.moves; fed = (own, tt) }
+        record { told = CallFed f.call outcome progress ∷ []; moves = f.moves; fed = (own, tt); ends = ends f.call }
 
     pub dropped : (past : List Happening) (n : ℕ) (w : WaitingCallValue) → waiting n ≡ Some w → after.resolver ≡ s.resolver
-        → Puts n None waiting later → Played past
-    dropped past n w there same puts =
+        → Puts n None waiting later → ((c : PendingCallValue) → Ends (CallDropped c ∷ [])) → Played past
+    dropped past n w there same puts ends =
         let d = drops resolver cache k.flights waiting k.flying after.resolver later n w there (same ∙ k.after_is) puts in
-        record { told = CallDropped d.call ∷ []; moves = d.moves; fed = (tt, tt) }
+        record { told = CallDropped d.call ∷ []; moves = d.moves; fed = (tt, tt); ends = ends d.call }
 
     -- ---- a look-up goes on
 
@@ -142,6 +160,9 @@ module _ (resolver : ResolverValue (List OutcomeValue)) (limits : PoolLimits) (s
     resumed past n w outcome held there puts from r =
         fed past n w outcome (progress_of r.progress) there r.resumes
         (puts-lookup n held (waiting_in (progress_of r.progress)) (ap call_of r.held_is ∙ call-of-lookup r.progress) puts) from
+        (λ c.
+        ends-put (CallFed c outcome (progress_of r.progress) ∷ []) n (Some held) s.table.lookups after.table.lookups
+        (λ found b e. inr (feeds-done r.progress c outcome found b (ap (λ (h : NetworkLookup). Some h) (sym r.held_is) ∙ e))) puts)
 
     pub resumed-less : (n : ℕ) (w : WaitingCallValue) (outcome : OutcomeValue) (held : NetworkLookup)
         → PutsUnder n (Some held) s.table.lookups after.table.lookups → Resumes w outcome s.resolver after.resolver held
@@ -170,7 +191,9 @@ module _ (resolver : ResolverValue (List OutcomeValue)) (limits : PoolLimits) (s
     gone-on past n outcome (Done found b) new there puts from places (is, same) = record {
       played = none-done past same
           (alike n None waiting later (ap (λ (h : Option NetworkLookup). option_and_then call_of h) there)
-          (puts-lookup n new None (ap call_of is) puts));
+          (puts-lookup n new None (ap call_of is) puts))
+          (ends-put [] n (Some new) s.table.lookups after.table.lookups
+          (λ f c e. inl (c, there ∙ (ap (λ (h : NetworkLookup). Some h) (sym is) ∙ e))) puts);
       less = record {
         lookups = lookups-less n (Some new) s.table.lookups after.table.lookups
             (λ v a e. let clash : Some (Done found b) ≡ Some (Asked v a) = ap (λ (h : NetworkLookup). Some h) (sym is) ∙ e in absurd cc) puts;
@@ -194,7 +217,8 @@ module _ (resolver : ResolverValue (List OutcomeValue)) (limits : PoolLimits) (s
         by None none (resolver_stays, table_stays) =
             let lookups_stay : after.table.lookups ≡ s.table.lookups = ap (λ (t : TableValue). t.lookups) table_stays ∙ same in
             record {
-              played = none-done past resolver_stays (λ m. ap (λ (l : Lookups). call_at l m) lookups_stay);
+              played = none-done past resolver_stays (λ m. ap (λ (l : Lookups). call_at l m) lookups_stay)
+                  (ends-same [] s.table.lookups after.table.lookups lookups_stay);
               less = record {
                 lookups = lookups-same s.table.lookups after.table.lookups lookups_stay;
                 places = places-by (ap (λ (t : TableValue). t.ahead) table_stays);
@@ -212,12 +236,13 @@ module _ (resolver : ResolverValue (List OutcomeValue)) (limits : PoolLimits) (s
 
     -- nothing but a queue has changed
     pub passed : (table : TableValue) → table.lookups ≡ s.table.lookups → table.ahead ≡ s.table.ahead
-        → after ≡ record s { table = table } → Kept resolver limits seed after
+        → after ≡ record s { table = table } → Kept resolver limits seed brought after
     passed table same same_ahead is =
         let lookups : after.table.lookups ≡ s.table.lookups = ap (λ (x : NetworkValue). x.table.lookups) is ∙ same in
         let places : after.table.ahead ≡ s.table.ahead = ap (λ (x : NetworkValue). x.table.ahead) is ∙ same_ahead in
-        keeps-telling resolver limits seed s k after (pool-stays resolver limits seed s k after (ap (λ (x : NetworkValue). x.pool) is))
-        (none-done k.past (ap (λ (x : NetworkValue). x.resolver) is) (λ m. ap (λ (l : Lookups). call_at l m) lookups))
+        keeps-telling resolver limits seed brought s k after (pool-stays resolver limits seed brought s k after (ap (λ (x : NetworkValue). x.pool) is))
+        (none-done k.past (ap (λ (x : NetworkValue). x.resolver) is) (λ m. ap (λ (l : Lookups). call_at l m) lookups)
+        (ends-same [] s.table.lookups after.table.lookups lookups))
         (record {
           lookups = lookups-same s.table.lookups after.table.lookups lookups;
           places = places-same resolver limits seed k.past s.table.ahead after.table.ahead places;
@@ -226,6 +251,7 @@ module _ (resolver : ResolverValue (List OutcomeValue)) (limits : PoolLimits) (s
 
     pub table-stays : (past : List Happening) → after.resolver ≡ s.resolver → after.table ≡ s.table → Went past
     table-stays past resolver_stays stays = record {
-      played = none-done past resolver_stays (λ m. ap (λ (t : TableValue). call_at t.lookups m) stays);
+      played = none-done past resolver_stays (λ m. ap (λ (t : TableValue). call_at t.lookups m) stays)
+          (ends-same [] s.table.lookups after.table.lookups (ap (λ (t : TableValue). t.lookups) stays));
       less = asks-same resolver limits seed past s.table after.table stays;
     }

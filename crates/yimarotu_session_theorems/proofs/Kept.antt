@@ -17,16 +17,19 @@ use Rattle.hickory_resolver.specs.client.waiting.Progress.TheVariants as progres
 use Rattle.hickory_resolver_askers.specs.declared.asker.Asker.{Asker}
 use Rattle.hickory_resolver_model.specs.Options.{request_options_of}
 use Rattle.hickory_resolver_model.specs.Resolver.{ResolverValue, settings}
-use Rattle.hickory_resolver_model.specs.Run.{Settings}
+use Rattle.hickory_resolver_model.specs.Lookup.{LookupResult}
+use Rattle.hickory_resolver_model.specs.Resuming.{IsDone}
+use Rattle.hickory_resolver_model.specs.Run.{Call, Settings}
 use Rattle.hickory_resolver_pool.specs.Laws.{PoolEvent, after_event}
 use Rattle.hickory_resolver_pool.specs.Over.{OverValue}
 use Rattle.hickory_resolver_pool.specs.Pool.{PoolState, Steps, no_servers}
 use Rattle.hickory_resolver_pool.specs.declared.pool.Action.{Action}
 use Rattle.hickory_resolver_pool.specs.declared.limits.PoolLimits.{PoolLimits}
-use Rattle.hickory_resolver_pool_theorems.specs.Runs.{Happening, Runs, by_event, by_step, came, did}
+use Rattle.hickory_resolver_pool_theorems.specs.Runs.{Happening, Runs, WasOver, by_event, by_step, came, did, octets_in, octets_of}
 use Rattle.hickory_resolver_pool_theorems.specs.Runs as runs
 use Rattle.hickory_resolver_pool_theorems.proofs.Asked.{IsOwn, own-event, own-step}
-use Rattle.hickory_resolver_theorems.specs.InterleavedCalls.{CallDropped, CallEventValue, CallFed, CallStarted, CallWorldValue, CallsHappen, HostsReplaced, AllCleared, NameCleared, call_world_of}
+use Rattle.hickory_resolver_pool_theorems.proofs.Later.{over-grows}
+use Rattle.hickory_resolver_theorems.specs.InterleavedCalls.{PendingCallValue, CallDropped, CallEventValue, CallFed, CallStarted, CallWorldValue, CallsHappen, HostsReplaced, AllCleared, NameCleared, call_world_of}
 use Rattle.hickory_resolver_theorems.specs.ResumingCalls.{WaitingCallValue}
 use Rattle.hickory_resolver_tries.specs.Question.{question_eq, question_of}
 use Rattle.hickory_resolver_tries.specs.declared.pool_question.PoolQuestion.{PoolQuestion}
@@ -40,7 +43,7 @@ use Rattle.yimarotu_session.specs.declared.ahead.Ahead.TheVariants.{Nothing, Tol
 use Rattle.yimarotu_session.specs.declared.ahead.SecondQuestion.{SecondQuestion}
 use Rattle.yimarotu_session.specs.declared.network_lookup.NetworkLookup.{NetworkLookup}
 use Rattle.yimarotu_session.specs.declared.network_lookup.NetworkLookup.TheVariants.{Asks, Asked, Done}
-use Rattle.yimarotu_session_theorems.specs.NetworkLaws.{IsFedFrom, IsFromPool, WasOver, question_with}
+use Rattle.yimarotu_session_theorems.specs.NetworkLaws.{AreOfCalls, IsFedFrom, IsFromPool, SomeComesTo, question_with}
 use Rattle.yimarotu_session_theorems.proofs.Moves.{AreFlying, Flights, Moves, Puts, over, waiting_in, world}
 
 -- ---- the calls of look-ups
@@ -98,22 +101,22 @@ happen-append s (x ∷ xs) ys before mid after (next, happens, rest) more =
 -- ---- what was told stays told, whatever happens later
 
 module _ (first : PoolState) (more past : List Happening) where
-  abbrev pub over-grows : (o : OverValue) → WasOver first past o → WasOver first (more ++ past) o
-  over-grows o w = record {
-    later = more ++ w.later;
-    earlier = w.earlier;
-    before = w.before;
-    after = w.after;
-    happened = ap (λ (l : List Happening). more ++ l) w.happened ∙ sym (append_assoc more w.later _);
-    runs = w.runs;
-    ends = w.ends;
-  }
-
   pub from-grows : (question : PoolQuestion) (outcome : OutcomeValue) → IsFromPool first past question outcome
       → IsFromPool first (more ++ past) question outcome
   from-grows question outcome (inl t) =
-      inl (record { over = t.over; was_over = over-grows t.over t.was_over; same = t.same; told = t.told; read = t.read })
-  from-grows question outcome (inr refused) = inr refused
+      inl (record { over = t.over; was_over = over-grows first more past t.over t.was_over; same = t.same; told = t.told; read = t.read })
+  from-grows question outcome (inr r) =
+      inr (record {
+        later = more ++ r.later;
+        earlier = r.earlier;
+        before = r.before;
+        query = r.query;
+        options = r.options;
+        now = r.now;
+        happened = ap (λ (l : List Happening). more ++ l) r.happened ∙ sym (append_assoc more r.later _);
+        same = r.same;
+        told = r.told;
+      })
 
   fed-grows : (options : DnsRequestOptions) (e : CallEventValue) → IsFedFrom first options past e
       → IsFedFrom first options (more ++ past) e
@@ -159,6 +162,89 @@ lookup-not-asked (progress.Done found) w a e = absurd cc
 
 pub lookups-same : (before after : Lookups) → after ≡ before → LookupsLess before after
 lookups-same before after same n w a there = ap (λ (l : Lookups). value_at n l) (sym same) ∙ there
+
+-- ---- look-ups that are done
+
+-- each that is done later was done before, with the same, or a call came to that
+abbrev pub EndsLess : List CallEventValue → Lookups → Lookups → Type 0
+EndsLess told before after =
+    (n : ℕ) (found : LookupResult) (b : Bool) → value_at n after ≡ Some (Done found b)
+    → ((c : Bool) × (value_at n before ≡ Some (Done found c))) ⊎ SomeComesTo found told
+
+abbrev pub EndsBefore : List CallEventValue → Lookups → ℕ → LookupResult → Type 0
+EndsBefore told before n found = ((c : Bool) × (value_at n before ≡ Some (Done found c))) ⊎ SomeComesTo found told
+
+pub ends-same : (told : List CallEventValue) (before after : Lookups) → after ≡ before → EndsLess told before after
+ends-same told before after same n found b there = inl (b, ap (λ (l : Lookups). value_at n l) (sym same) ∙ there)
+
+-- where one takes a place
+pub ends-put : (told : List CallEventValue) (n : ℕ) (held : Option NetworkLookup) (before after : Lookups)
+    → ((found : LookupResult) (b : Bool) → held ≡ Some (Done found b) → EndsBefore told before n found)
+    → PutsUnder n held before after → EndsLess told before after
+ends-put told n held before after own puts m found b there = by (nat_eq n m) refl (sym (puts m) ∙ there)
+  where
+    by : (t : Bool) → nat_eq n m ≡ t → cond t held (value_at m before) ≡ Some (Done found b)
+        → EndsBefore told before m found
+    by true is e =
+        let same : n ≡ m = grind (arith, nat_tests) in
+        subst (λ (i : ℕ). EndsBefore told before i found) same (own found b e)
+    by false is e = inl (b, e)
+
+-- where one that is not done does
+pub ends-put-undone : (told : List CallEventValue) (n : ℕ) (held : Option NetworkLookup) (before after : Lookups)
+    → ((found : LookupResult) (b : Bool) → held ≡ Some (Done found b) → ⊥) → PutsUnder n held before after
+    → EndsLess told before after
+ends-put-undone told n held before after undone puts =
+    ends-put told n held before after (λ found b e. absurd (undone found b e)) puts
+
+-- a call that is started, or goes on, comes to what its look-up does
+pub starts-done : (p : CallProgress) (call : Call) (now : ℕ) (found : LookupResult) (b : Bool)
+    → Some (lookup_of p) ≡ Some (Done found b) → SomeComesTo found (CallStarted call now (progress_of p) ∷ [])
+starts-done (progress.Waiting w) call now found b e =
+    let clash : Some (Asks w) ≡ Some (Done found b) = e in absurd cc
+starts-done (progress.Done result) call now found b e =
+    let same : result ≡ found = cc in
+    record {
+      earlier = [];
+      event = CallStarted call now (IsDone result);
+      later = [];
+      among = refl;
+      comes_to = ap (λ (r : LookupResult). IsDone r) same;
+    }
+
+pub feeds-done : (p : CallProgress) (call : PendingCallValue) (outcome : OutcomeValue) (found : LookupResult) (b : Bool)
+    → Some (lookup_of p) ≡ Some (Done found b) → SomeComesTo found (CallFed call outcome (progress_of p) ∷ [])
+feeds-done (progress.Waiting w) call outcome found b e =
+    let clash : Some (Asks w) ≡ Some (Done found b) = e in absurd cc
+feeds-done (progress.Done result) call outcome found b e =
+    let same : result ≡ found = cc in
+    record {
+      earlier = [];
+      event = CallFed call outcome (IsDone result);
+      later = [];
+      among = refl;
+      comes_to = ap (λ (r : LookupResult). IsDone r) same;
+    }
+
+comes-before : (found : LookupResult) (told more : List CallEventValue) → SomeComesTo found told
+    → SomeComesTo found (told ++ more)
+comes-before found told more s = record {
+  earlier = s.earlier;
+  event = s.event;
+  later = s.later ++ more;
+  among = ap (λ (l : List CallEventValue). l ++ more) s.among ∙ append_assoc s.earlier (s.event ∷ s.later) more;
+  comes_to = s.comes_to;
+}
+
+comes-behind : (found : LookupResult) (told more : List CallEventValue) → SomeComesTo found more
+    → SomeComesTo found (told ++ more)
+comes-behind found told more s = record {
+  earlier = told ++ s.earlier;
+  event = s.event;
+  later = s.later;
+  among = ap (λ (l : List CallEventValue). told ++ l) s.among ∙ sym (append_assoc told s.earlier (s.event ∷ s.later));
+  comes_to = s.comes_to;
+}
 
 -- ---- a session
 
@@ -273,9 +359,11 @@ module _ (resolver : ResolverValue (List OutcomeValue)) (limits : PoolLimits) (s
   IsTelling past table None = Unit {0}
   IsTelling past table (Some t) = IsToldOf past table t.over
 
-  pub record Kept (s : NetworkValue) : Type 0 where
+  -- with the octets that came
+  pub record Kept (brought : List PoolEvent) (s : NetworkValue) : Type 0 where
     pub past : List Happening
     pub runs : Runs first past s.pool
+    pub came : octets_in past ≡ brought
     pub told : List CallEventValue
     pub flights : Flights
     pub happen : CallsHappen (settings resolver) (call_world_of resolver.client.cache resolver.hosts) told
@@ -286,11 +374,13 @@ module _ (resolver : ResolverValue (List OutcomeValue)) (limits : PoolLimits) (s
     pub asked : AreAskedFor s.pool s.table.lookups
     pub ahead : AreAhead past s.pool s.table.ahead
     pub telling : IsTelling past s.table s.telling
+    pub done : AreOfCalls told s.table
 
-  pub kept-first : Kept (new_session resolver limits seed)
+  pub kept-first : Kept [] (new_session resolver limits seed)
   kept-first = record {
     past = [];
     runs = runs.at_first;
+    came = refl;
     told = [];
     flights = [];
     happen = refl;
@@ -300,12 +390,14 @@ module _ (resolver : ResolverValue (List OutcomeValue)) (limits : PoolLimits) (s
     asked = λ n w a there. let clash : None ≡ Some (Asked w a) = there in absurd cc;
     ahead = λ n x there. let clash : None ≡ Some x = there in absurd cc;
     telling = tt;
+    done = λ n found b there. let clash : None ≡ Some (Done found b) = there in absurd cc;
   }
 
-  -- the pool moved, or not
-  pub record PoolMoves (past : List Happening) (before after : PoolState) : Type 0 where
+  -- the pool moved, or not, with these octets
+  pub record PoolMoves (octets : List PoolEvent) (past : List Happening) (before after : PoolState) : Type 0 where
     pub later : List Happening
     pub runs : Runs first (later ++ past) after
+    pub come : octets_in (later ++ past) ≡ octets ++ octets_in past
     pub asked : (question : PoolQuestion) (a : Asker) → IsAskedFor before question a → IsAskedFor after question a
 
   pub told-grows : (past more : List Happening) (before after : TableValue) (over : OverValue)
@@ -326,31 +418,35 @@ module _ (resolver : ResolverValue (List OutcomeValue)) (limits : PoolLimits) (s
   telling-grows past more before after None less h = tt
   telling-grows past more before after (Some t) less h = told-grows past more before after t.over less h
 
-  module _ (s : NetworkValue) (k : Kept s) (after : NetworkValue) where
-    abbrev pub pool-stays : after.pool ≡ s.pool → PoolMoves k.past s.pool after.pool
+  module _ (brought : List PoolEvent) (s : NetworkValue) (k : Kept brought s) (after : NetworkValue) where
+    abbrev pub pool-stays : after.pool ≡ s.pool → PoolMoves [] k.past s.pool after.pool
     pool-stays same = record {
       later = [];
       runs = subst (λ (p : PoolState). Runs first k.past p) (sym same) k.runs;
+      come = refl;
       asked = λ q a h. subst (λ (p : PoolState). IsAskedFor p q a) (sym same) h;
     }
 
-    abbrev pub pool-takes : (e : PoolEvent) → after.pool ≡ after_event s.pool e → PoolMoves k.past s.pool after.pool
+    abbrev pub pool-takes : (e : PoolEvent) → after.pool ≡ after_event s.pool e
+        → PoolMoves (octets_of e) k.past s.pool after.pool
     pool-takes e same = record {
       later = came s.pool e ∷ [];
       runs = subst (λ (p : PoolState). Runs first (came s.pool e ∷ k.past) p) (sym same) (by_event k.past s.pool e k.runs);
+      come = refl;
       asked = λ q a h. subst (λ (p : PoolState). IsAskedFor p q a) (sym same)
           (record { list = h.list; asked = h.asked; same = h.same; own = own-event (h.list, h.asked) a.transaction s.pool e h.own });
     }
 
     -- two events, one after the other
     abbrev pub pool-takes-both : (e f : PoolEvent) → after.pool ≡ after_event (after_event s.pool e) f
-        → PoolMoves k.past s.pool after.pool
+        → PoolMoves (octets_of f ++ octets_of e) k.past s.pool after.pool
     pool-takes-both e f same =
         let mid = after_event s.pool e in
         record {
           later = came mid f ∷ came s.pool e ∷ [];
           runs = subst (λ (p : PoolState). Runs first (came mid f ∷ came s.pool e ∷ k.past) p) (sym same)
               (by_event (came s.pool e ∷ k.past) mid f (by_event k.past s.pool e k.runs));
+          come = sym (append_assoc (octets_of f) (octets_of e) (octets_in k.past));
           asked = λ q a h. subst (λ (p : PoolState). IsAskedFor p q a) (sym same)
               (record {
                 list = h.list;
@@ -360,10 +456,11 @@ module _ (resolver : ResolverValue (List OutcomeValue)) (limits : PoolLimits) (s
               });
         }
 
-    abbrev pub pool-does : (r : Option Action) → Steps s.pool r after.pool → PoolMoves k.past s.pool after.pool
+    abbrev pub pool-does : (r : Option Action) → Steps s.pool r after.pool → PoolMoves [] k.past s.pool after.pool
     pool-does r steps = record {
       later = did s.pool r ∷ [];
       runs = by_step k.past s.pool after.pool r steps k.runs;
+      come = refl;
       asked = λ q a h. record { list = h.list; asked = h.asked; same = h.same; own = own-step (h.list, h.asked) a.transaction s.pool after.pool r steps h.own };
     }
 
@@ -374,18 +471,18 @@ module _ (resolver : ResolverValue (List OutcomeValue)) (limits : PoolLimits) (s
         subst (λ (t : Option TellingValue). IsTelling (more ++ k.past) after.table t) (sym same)
         (telling-grows k.past more s.table after.table s.telling less k.telling)
 
-    pub asked-on : (p : PoolMoves k.past s.pool after.pool) → LookupsLess s.table.lookups after.table.lookups
+    pub asked-on : {octets : List PoolEvent} (p : PoolMoves octets k.past s.pool after.pool) → LookupsLess s.table.lookups after.table.lookups
         → AreAskedFor after.pool after.table.lookups
     asked-on p less n w a there = p.asked (question_with options w) a (k.asked n w a (less n w a there))
 
     -- what was asked ahead before is so after it
-    pub ahead-grows : (p : PoolMoves k.past s.pool after.pool) (x : Ahead) → IsAhead k.past s.pool x
+    pub ahead-grows : {octets : List PoolEvent} (p : PoolMoves octets k.past s.pool after.pool) (x : Ahead) → IsAhead k.past s.pool x
         → IsAhead (p.later ++ k.past) after.pool x
     ahead-grows p Nothing h = tt
     ahead-grows p (Waits q a) h = p.asked (question_for q.query) a h
     ahead-grows p (Told q outcome) h = from-grows first p.later k.past (question_for q) outcome h
 
-    pub ahead-on : (p : PoolMoves k.past s.pool after.pool) → PlacesLess (p.later ++ k.past) s.table.ahead after.table.ahead
+    pub ahead-on : {octets : List PoolEvent} (p : PoolMoves octets k.past s.pool after.pool) → PlacesLess (p.later ++ k.past) s.table.ahead after.table.ahead
         → AreAhead (p.later ++ k.past) after.pool after.table.ahead
     ahead-on p less n x there = by (less n x there)
       where
@@ -404,16 +501,26 @@ module _ (resolver : ResolverValue (List OutcomeValue)) (limits : PoolLimits) (s
       pub told : List CallEventValue
       pub moves : Moves resolver told s.resolver.client.cache k.flights after.resolver (call_at after.table.lookups)
       pub fed : AllByRecursion (IsFedFrom first options past) told
+      pub ends : EndsLess told s.table.lookups after.table.lookups
 
-    pub keeps : (p : PoolMoves k.past s.pool after.pool) → Done-to (p.later ++ k.past)
+    -- what is done is what a call came to, before or now
+    done-on : (past : List Happening) (d : Done-to past) → AreOfCalls (k.told ++ d.told) after.table
+    done-on past d n found b there = by (d.ends n found b there)
+      where
+        by : EndsBefore d.told s.table.lookups n found → SomeComesTo found (k.told ++ d.told)
+        by (inl (c, old)) = comes-before found k.told d.told (k.done n found c old)
+        by (inr s) = comes-behind found k.told d.told s
+
+    pub keeps : {octets : List PoolEvent} (p : PoolMoves octets k.past s.pool after.pool) → Done-to (p.later ++ k.past)
         → AreAskedFor after.pool after.table.lookups → AreAhead (p.later ++ k.past) after.pool after.table.ahead
-        → IsTelling (p.later ++ k.past) after.table after.telling → Kept after
-    keeps p d asked ahead telling =
+        → IsTelling (p.later ++ k.past) after.table after.telling → Kept (octets ++ brought) after
+    keeps {octets} p d asked ahead telling =
         let past = p.later ++ k.past in
         let cache = s.resolver.client.cache in
         record {
           past = past;
           runs = p.runs;
+          came = p.come ∙ ap (λ (l : List PoolEvent). octets ++ l) k.came;
           told = k.told ++ d.told;
           flights = d.moves.left;
           happen = happen-append (settings resolver) k.told d.told (call_world_of resolver.client.cache resolver.hosts)
@@ -425,10 +532,11 @@ module _ (resolver : ResolverValue (List OutcomeValue)) (limits : PoolLimits) (s
           asked = asked;
           ahead = ahead;
           telling = telling;
+          done = done-on past d;
         }
 
     -- where no look-up is asked anew, and somebody is told as before
-    pub keeps-telling : (p : PoolMoves k.past s.pool after.pool) → Done-to (p.later ++ k.past)
-        → AsksLess (p.later ++ k.past) s.table after.table → after.telling ≡ s.telling → Kept after
+    pub keeps-telling : {octets : List PoolEvent} (p : PoolMoves octets k.past s.pool after.pool) → Done-to (p.later ++ k.past)
+        → AsksLess (p.later ++ k.past) s.table after.table → after.telling ≡ s.telling → Kept (octets ++ brought) after
     keeps-telling p d less same =
         keeps p d (asked-on p less.lookups) (ahead-on p less.places) (tells-on p.later same less)

@@ -22,7 +22,7 @@ use Rattle.yimarotu_session.specs.Calls.{Does}
 use Rattle.yimarotu_session.specs.LookupTables.{ChangesAhead, TableValue, ahead_at, announced, emptied, first_announced, first_asked, held_at, lookup_of, question_ahead, waits_ahead, waits_for, without_asker, without_told}
 use Rattle.yimarotu_session.specs.Messages.{whole_query}
 use Rattle.yimarotu_session.specs.NetworkSessions.{Begins, BeginsLookup, Cancels, ClearsName, NetworkValue, TellingValue, is_attempted, new_session, seconds_of}
-use Rattle.yimarotu_session.specs.NetworkSteps.{Announces, AnnouncesAs, AnnouncesFirst, AsksAhead, AsksAs, AsksBy, AsksFirst, AsksFor, AsksIf, AsksPool, AsksSecond, ForgetsFirst, GoesOn, GoesOnAt, GoesOnWith, IsAnswered, IsAskedAhead, StepsPool, Tells, TellsAhead, TellsLookup, TellsNext, TellsOther, WaitsFor, asker_with, forgotten, pool_says}
+use Rattle.yimarotu_session.specs.NetworkSteps.{Announces, AnnouncesAs, AnnouncesFirst, AsksAs, AsksBy, AsksFirst, AsksFor, AsksIf, AsksPool, AsksSecond, ForgetsFirst, GoesOn, GoesOnAt, GoesOnWith, IsAnswered, IsAskedAhead, StepsPool, Tells, TellsAhead, TellsLookup, TellsNext, TellsOther, WaitsFor, asker_with, forgotten, pool_says}
 use Rattle.yimarotu_session.specs.Sessions.{PutsUnder, value_at}
 use Rattle.yimarotu_session.specs.declared.ahead.Ahead.{Ahead}
 use Rattle.yimarotu_session.specs.declared.ahead.Ahead.TheVariants.{Nothing, Told, Waits}
@@ -276,9 +276,10 @@ module _ (s : NetworkValue) (fine : Fine s.table) (after : NetworkValue) where
   happens (is_stepped action) h = stepped action s.telling h
 
 module _ (resolver : ResolverValue (List OutcomeValue)) (limits : PoolLimits) (seed : List ℕ) where
-  kept : {session : NetworkValue} → NetworkRuns (new_session resolver limits seed) session → Fine session.table
+  kept : {events : List NetworkEvent} {session : NetworkValue} → NetworkRuns (new_session resolver limits seed) events session
+      → Fine session.table
   kept at_first = λ n x there. let clash : None ≡ Some x = there in absurd cc
-  kept (next event before after is runs) = happens before (kept runs) after event is
+  kept (next past event before after is runs) = happens before (kept runs) after event is
 
 pub nothing_is_left_ahead : NothingIsLeftAhead
-nothing_is_left_ahead resolver limits seed session runs = kept resolver limits seed runs
+nothing_is_left_ahead resolver limits seed events session runs = kept resolver limits seed runs

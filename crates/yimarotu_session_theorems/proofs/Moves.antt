@@ -217,15 +217,14 @@ module _ {H : Type 0} (first : ResolverValue H) where
         }
 
     -- a call that waits goes on
-    pub record Feeds (w : WaitingCallValue) (outcome : OutcomeValue) : Type 0 where
+    pub record Feeds (w : WaitingCallValue) (outcome : OutcomeValue) (progress : CallProgressValue) : Type 0 where
       pub call : PendingCallValue
       pub waits : call.waiting ≡ w
-      pub progress : CallProgressValue
       pub moves : Moves (CallFed call outcome progress ∷ []) cache flights after later
 
     pub feeds : (n : ℕ) (w : WaitingCallValue) (outcome : OutcomeValue) (progress : CallProgressValue)
         → waiting n ≡ Some w → ResumesAt w outcome (over cache) progress after
-        → Puts n (waiting_in progress) waiting later → Feeds w outcome
+        → Puts n (waiting_in progress) waiting later → Feeds w outcome progress
     feeds n w outcome progress there resumes puts =
         let p = pending-there (at n flights) w (flying.wait n ∙ there) in
         let c = p.call in
@@ -237,7 +236,6 @@ module _ {H : Type 0} (first : ResolverValue H) where
         record {
           call = c;
           waits = p.waits;
-          progress = progress;
           moves = record {
             left = left;
             happen = (world after.client.cache left, (r.front, r.back, r.are, own.resumes, refl, fed-values n c flights p.is own.resumes.0 c.call asks progress), refl);

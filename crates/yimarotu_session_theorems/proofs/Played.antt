@@ -11,7 +11,7 @@ use Rattle.hickory_resolver_theorems.specs.InterleavedCalls.{CallEventValue, Cal
 use Rattle.hickory_resolver_theorems.proofs.CallReplies.{replies_promised}
 use Rattle.yimarotu_session.specs.NetworkSessions.{NetworkValue, new_session}
 use Rattle.yimarotu_session_theorems.specs.NetworkLaws.{IsPlayedOver, SessionsPlayCalls}
-use Rattle.yimarotu_session_theorems.specs.NetworkRuns.{NetworkRuns, at_first, next}
+use Rattle.yimarotu_session_theorems.specs.NetworkRuns.{NetworkEvent, NetworkRuns, at_first, next, octets_in}
 use Rattle.yimarotu_session_theorems.proofs.Changes.{happens}
 use Rattle.yimarotu_session_theorems.proofs.Kept.{Kept, happen-append, kept-first}
 use Rattle.yimarotu_session_theorems.proofs.Moves.{world}
@@ -31,26 +31,31 @@ as-promised s empty first none earlier before so_far (event ∷ later) end (afte
 )
 
 module _ (resolver : ResolverValue (List OutcomeValue)) (limits : PoolLimits) (seed : List ℕ) where
-  kept : {session : NetworkValue} → NetworkRuns (new_session resolver limits seed) session
-      → Kept resolver limits seed session
+  kept : {events : List NetworkEvent} {session : NetworkValue} → NetworkRuns (new_session resolver limits seed) events session
+      → Kept resolver limits seed (octets_in events) session
   kept at_first = kept-first resolver limits seed
-  kept (next event before after is runs) = happens resolver limits seed before (kept runs) after event is
+  kept (next past event before after is runs) =
+      happens resolver limits seed (octets_in past) before (kept runs) after event is
 
-  played : (session : NetworkValue) → Kept resolver limits seed session → IsPlayedOver resolver limits seed session
-  played session k =
+  played : (events : List NetworkEvent) (session : NetworkValue) → Kept resolver limits seed (octets_in events) session
+      → IsPlayedOver resolver limits seed events session
+  played events session k =
       let cache = resolver.client.cache in
       let end = world resolver session.resolver.client.cache k.flights in
       record {
         past = k.past;
         pool_runs = k.runs;
+        came = k.came;
         told = k.told;
         world = end;
         happen = k.happen;
         cache_is = refl;
         others_stay = k.after_is;
         fed = k.fed;
+        done = k.done;
         promised = λ none. as-promised (settings resolver) cache resolver.hosts none [] (call_world_of cache resolver.hosts) refl k.told end k.happen;
       }
 
 pub sessions_play_calls : SessionsPlayCalls
-sessions_play_calls resolver limits seed session runs = played resolver limits seed session (kept resolver limits seed runs)
+sessions_play_calls resolver limits seed events session runs =
+    played resolver limits seed events session (kept resolver limits seed runs)

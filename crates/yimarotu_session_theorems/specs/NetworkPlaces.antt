@@ -8,7 +8,7 @@ use Rattle.yimarotu_session.specs.NetworkSessions.{NetworkValue, new_session}
 use Rattle.yimarotu_session.specs.declared.ahead.Ahead.{Ahead}
 use Rattle.yimarotu_session.specs.declared.network_lookup.NetworkLookup.{NetworkLookup}
 use Rattle.yimarotu_session.specs.declared.network_lookup.NetworkLookup.TheVariants.{Done}
-use Rattle.yimarotu_session_theorems.specs.NetworkRuns.{NetworkRuns}
+use Rattle.yimarotu_session_theorems.specs.NetworkRuns.{NetworkEvent, NetworkRuns}
 
 -- there is such a look-up, and it was not announced
 abbrev pub IsUnfinished : Option NetworkLookup → Type 0
@@ -23,5 +23,6 @@ AsksAheadOfUnfinished table =
 
 abbrev pub NothingIsLeftAhead : Type 0
 NothingIsLeftAhead =
-    (resolver : ResolverValue (List OutcomeValue)) (limits : PoolLimits) (seed : List ℕ) (session : NetworkValue)
-    → NetworkRuns (new_session resolver limits seed) session → AsksAheadOfUnfinished session.table
+    (resolver : ResolverValue (List OutcomeValue)) (limits : PoolLimits) (seed : List ℕ) (events : List NetworkEvent)
+    → (session : NetworkValue) → NetworkRuns (new_session resolver limits seed) events session
+    → AsksAheadOfUnfinished session.table

@@ -1,6 +1,8 @@
 -- What happened to a session with a network, one thing after another.
-use Rattle.std.specs.Prelude.{◌≡◌, ℕ, Bool, List, Option, Result}
+use Rattle.std.specs.Prelude.{◌≡◌, ℕ, Bool, List, [], ◌∷◌, ◌++◌, Option, Result}
 use Rattle.hickory_proto_core.specs.codes.record_type.RecordType.{RecordType}
+use Rattle.hickory_resolver_pool.specs.Laws.{PoolEvent}
+use Rattle.hickory_resolver_pool.specs.Laws as pool
 use Rattle.hickory_resolver_pool.specs.Pool.{after_failure, after_octets, after_servers, after_tick}
 use Rattle.hickory_resolver_pool.specs.Servers.{PoolServerValue}
 use Rattle.hickory_resolver_traffic.specs.declared.inbox.ChannelFailure.{ChannelFailure}
@@ -35,8 +37,18 @@ Happens (name_is_cleared name t result) before after = ClearsName name t before 
 Happens all_is_cleared before after = after ≡ cleared before
 Happens (is_stepped action) before after = SessionSteps before action after
 
--- Events and steps come in any order.
-pub data NetworkRuns (start : NetworkValue) : NetworkValue → Type 0 where
-  at_first : NetworkRuns start start
-  next : (event : NetworkEvent) (before after : NetworkValue) → Happens event before after → NetworkRuns start before
-      → NetworkRuns start after
+-- The latest is the first of these. Events and steps come in any order.
+pub data NetworkRuns (start : NetworkValue) : List NetworkEvent → NetworkValue → Type 0 where
+  at_first : NetworkRuns start [] start
+  next : (past : List NetworkEvent) (event : NetworkEvent) (before after : NetworkValue) → Happens event before after
+      → NetworkRuns start past before → NetworkRuns start (event ∷ past) after
+
+-- an event is that octets come, as the pool is told, or it is none of these
+abbrev pub octets_of : NetworkEvent → List PoolEvent
+octets_of (octets_come channel octets now) = pool.octets_come channel octets now ∷ []
+octets_of other = []
+
+-- the octets that came to a session, each with its channel and its moment, the latest first
+abbrev pub octets_in : List NetworkEvent → List PoolEvent
+octets_in [] = []
+octets_in (event ∷ past) = octets_of event ++ octets_in past

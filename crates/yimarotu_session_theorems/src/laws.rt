@@ -3,7 +3,8 @@ ghost use Rattle.yimarotu_session_theorems.specs.NetworkLaws.{SessionsPlayCalls}
 ghost use Rattle.yimarotu_session_theorems.specs.NetworkPlaces.{NothingIsLeftAhead};
 
 /// What happened to the resolver of a session is a list of events of its calls, as promised of them: calls start, are
-/// dropped, and go on with what the pool told, whose responses are what octets spell that came and were believed.
+/// dropped, and go on with what the pool told, or with its refusal. Responses are what octets spell that came before to
+/// the session and were believed.
 pub fn sessions_play_calls()
     ensures { SessionsPlayCalls }
 {}
