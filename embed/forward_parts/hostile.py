@@ -155,7 +155,7 @@ def short_of_memory(cases, daemon):
     if daemon.name.endswith(".sanitized"):
         return
     file = daemon.folder / f"short{time.monotonic_ns()}"
-    file.write_bytes(bytes(16))
+    file.write_bytes(bytes(24))
     environment = {**os.environ, "LD_PRELOAD": str(daemon.program.parent / "short_of_memory.so"), "SHORT": str(file)}
     with contextlib.ExitStack() as stack:
         listener = stack.enter_context(socket.create_server(("127.0.0.1", 0)))
@@ -167,7 +167,7 @@ def short_of_memory(cases, daemon):
         with listener, listener.accept()[0] as connection:
             connection.recv(512)
             numbers.write(struct.pack("@Q", 1))
-        wait_until(lambda: struct.unpack("@2Q", file.read_bytes())[1] > 0, "it is refused memory")
+        wait_until(lambda: struct.unpack("@3Q", file.read_bytes())[1] > 0, "it is refused memory")
         began = time.monotonic()
         numbers.seek(0)
         numbers.write(struct.pack("@Q", 0))
@@ -176,4 +176,27 @@ def short_of_memory(cases, daemon):
         cases.tell("a server that was gone while there was no memory", is_right, f"{told} after {taken} s")
 
 
-ALL = (clients, servers, without_memory, short_of_memory)
+def without_room(cases, daemon):
+    """A query for which the kernel had no room on a stream is sent on another, and not once a channel has closed."""
+    if daemon.name.endswith(".sanitized"):
+        return
+    file = daemon.folder / f"short{time.monotonic_ns()}"
+    file.write_bytes(struct.pack("@3Q", 0, 0, 1))
+    environment = {**os.environ, "LD_PRELOAD": str(daemon.program.parent / "short_of_memory.so"), "SHORT": str(file)}
+    with contextlib.ExitStack() as stack:
+        listener = stack.enter_context(socket.create_server(("127.0.0.1", 0)))
+        listener.settimeout(SOON)
+        lines = [f"server 127.0.0.1 {listener.getsockname()[1]} tcp", f"option timeout {TIMEOUT}", "option attempts 0"]
+        running = stack.enter_context(daemon.running(*lines, env=environment))
+        client = stack.enter_context(asking.datagrams(running.port))
+        client.send(asking.query("room.example.test").to_wire())
+        first = stack.enter_context(listener.accept()[0])
+        cases.equal("nothing comes on the first", first.recv(512), b"")
+        second = stack.enter_context(listener.accept()[0])
+        wire = answered(dns.message.from_wire(second.recv(512)[2:]), (60, "IN", "A", "192.0.2.4"))
+        second.sendall(struct.pack(">H", len(wire)) + wire)
+        told = asking.addresses(dns.message.from_wire(client.recv(512)))
+        cases.equal("a query for which the kernel had no room", told, ["192.0.2.4"])
+
+
+ALL = (clients, servers, without_memory, short_of_memory, without_room)

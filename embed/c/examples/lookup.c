@@ -39,10 +39,16 @@ static uint64_t now(void) {
 
 /* A channel failed with this error; where that is 0, its stream was closed. */
 static void fail(uint64_t channel, int error) {
-    bool is_local = error == EMFILE || error == ENFILE || error == ENOBUFS || error == ENOMEM || error == EADDRNOTAVAIL;
     uint8_t of_server = error == ECONNREFUSED ? YIMAROTU_CHANNEL_REFUSED : YIMAROTU_CHANNEL_UNREACHABLE;
-    uint8_t why = is_local ? YIMAROTU_CHANNEL_LOCAL : error == 0 ? YIMAROTU_CHANNEL_CLOSED : of_server;
-    yimarotu_failed(&session, channel, why, now());
+    yimarotu_failed(&session, channel, error == 0 ? YIMAROTU_CHANNEL_CLOSED : of_server, now());
+}
+
+/* A channel could not be opened, which may be for want of something here. */
+static void fail_to_open(uint64_t channel, int error) {
+    bool is_local = error == EMFILE || error == ENFILE || error == ENOBUFS || error == ENOMEM || error == EADDRNOTAVAIL
+        || error == EAGAIN; /* no port is left for a socket of datagrams */
+    if (is_local) yimarotu_failed(&session, channel, YIMAROTU_CHANNEL_LOCAL, now());
+    else fail(channel, error);
 }
 
 /* Opens a channel: a socket of its own, connected to the server whose address, and scope behind it, are in the room. One
@@ -57,13 +63,13 @@ static void open_channel(const yimarotu_action *open) {
         snprintf(scope, sizeof scope, "%.*s", (int)open->length - 16, (char *)room + 16);
         v6.sin6_scope_id = if_nametoindex(scope) ? if_nametoindex(scope) : (uint32_t)atoi(scope);
     }
-    if (count == CHANNELS) return fail(open->channel, EMFILE);
+    if (count == CHANNELS) return fail_to_open(open->channel, EMFILE);
     int fd = socket(is_v4 ? AF_INET : AF_INET6, (is_stream ? SOCK_STREAM : SOCK_DGRAM) | SOCK_CLOEXEC | SOCK_NONBLOCK, 0);
-    if (fd < 0) return fail(open->channel, errno);
+    if (fd < 0) return fail_to_open(open->channel, errno);
     channels[count] = (struct channel){.number = open->channel, .is_stream = is_stream};
     polled[count++] = (struct pollfd){.fd = fd, .events = POLLIN};
     int ended = is_v4 ? connect(fd, (struct sockaddr *)&v4, sizeof v4) : connect(fd, (struct sockaddr *)&v6, sizeof v6);
-    if (ended != 0 && errno != EINPROGRESS) fail(open->channel, errno);
+    if (ended != 0 && errno != EINPROGRESS) fail_to_open(open->channel, errno);
 }
 
 /* Sends what waits on a channel, and so many octets of the room behind it, as far as it goes. */

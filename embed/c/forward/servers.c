@@ -42,15 +42,25 @@ static bool is_told(const struct failure *failure) {
     return yimarotu_forwarder_failed(&forwarder, failure->channel, failure->why, moment) != YIMAROTU_NO_MEMORY;
 }
 
-/* A channel failed with this error; where that is 0, its stream was closed. */
-static void tell_failure(uint64_t number, int error) {
-    bool is_local = error == EMFILE || error == ENFILE || error == ENOBUFS || error == ENOMEM || error == EADDRNOTAVAIL
+/* Whether a channel cannot be opened with this error since something is wanting here. */
+static bool is_local(int error) {
+    return error == EMFILE || error == ENFILE || error == ENOBUFS || error == ENOMEM || error == EADDRNOTAVAIL
         || error == EAGAIN || error == ENOSPC; /* connect(2) of a datagram socket: no port; epoll_ctl(2): no watch */
-    uint8_t of_server = error == ECONNREFUSED ? YIMAROTU_CHANNEL_REFUSED : YIMAROTU_CHANNEL_UNREACHABLE;
-    uint8_t why = is_local ? YIMAROTU_CHANNEL_LOCAL : error == 0 ? YIMAROTU_CHANNEL_CLOSED : of_server;
+}
+
+static void tell_failure(uint64_t number, uint8_t why) {
     struct failure failure = {number, why};
     if (!is_told(&failure) && untold_count < MOST_UNTOLD) untold[untold_count++] = failure;
 }
+
+/* A channel that was opened failed with this error; where that is 0, its stream was closed. Octets may have gone out on
+ * it, so whatever is wanting here, it is no more than a channel that leads nowhere. */
+static uint8_t why_failed(int error) {
+    uint8_t of_server = error == ECONNREFUSED ? YIMAROTU_CHANNEL_REFUSED : YIMAROTU_CHANNEL_UNREACHABLE;
+    return error == 0 ? YIMAROTU_CHANNEL_CLOSED : of_server;
+}
+
+static uint8_t why_not_opened(int error) { return is_local(error) ? YIMAROTU_CHANNEL_LOCAL : why_failed(error); }
 
 bool has_untold_failures(void) { return untold_count > 0; }
 
@@ -62,10 +72,10 @@ void tell_failures_again(void) {
 }
 
 /* A socket for datagrams is kept after an error, which ICMP told. */
-static void fail(struct channel *channel, int error) {
+static void fail(struct channel *channel, uint8_t why) {
     if (channel->is_stream && !channel->has_failed) watch(EPOLL_CTL_DEL, channel->fd, 0, what(channel->number));
     channel->has_failed = channel->is_stream;
-    tell_failure(channel->number, error);
+    tell_failure(channel->number, why);
 }
 
 /* The number of a scope, which is the name of an interface or that number. */
@@ -105,20 +115,20 @@ void open_channel(const yimarotu_action *open) {
     struct channel *channel = malloc(sizeof *channel), **link = link_of(open->channel);
     int fd = channel != NULL ? socket_for(&server, is_stream) : -1;
     if (fd < 0 || !watch(EPOLL_CTL_ADD, fd, EPOLLIN, what(open->channel))) {
-        tell_failure(open->channel, errno);
+        tell_failure(open->channel, why_not_opened(errno));
         if (fd >= 0) close(fd);
         return free(channel);
     }
     *channel = (struct channel){.number = open->channel, .fd = fd, .is_stream = is_stream, .next = *link};
     *link = channel;
-    if (connect(fd, &server.any, length) != 0 && errno != EINPROGRESS) fail(channel, errno);
+    if (connect(fd, &server.any, length) != 0 && errno != EINPROGRESS) fail(channel, why_not_opened(errno));
 }
 
 /* Sends what waits on a stream as far as it goes; before it is connected nothing does. That it was closed is told when
  * all was received that had come before. */
 static void send_kept(struct channel *channel) {
     ssize_t sent = send(channel->fd, channel->out.at, channel->out.length, MSG_NOSIGNAL);
-    if (sent < 0 && (errno == ENOBUFS || errno == ENOMEM)) return fail(channel, errno);
+    if (sent < 0 && (errno == ENOBUFS || errno == ENOMEM)) return fail(channel, why_failed(errno));
     bool is_closed = sent < 0 && errno != EAGAIN && errno != EINTR;
     if (sent > 0 || is_closed) drop(&channel->out, is_closed ? channel->out.length : (size_t)sent);
     watch(EPOLL_CTL_MOD, channel->fd, EPOLLIN | (channel->out.length > 0 ? EPOLLOUT : 0), what(channel->number));
@@ -129,9 +139,9 @@ void send_on_channel(uint64_t number, const uint8_t *octets, size_t length) {
     if (channel == NULL || channel->has_failed) return;
     if (!channel->is_stream) {
         ssize_t sent = send(channel->fd, octets, length, MSG_NOSIGNAL);
-        if (sent < 0 && errno != EAGAIN && errno != EINTR) fail(channel, errno);
+        if (sent < 0 && errno != EAGAIN && errno != EINTR) fail(channel, why_failed(errno));
     } else if (channel->out.length > MOST_KEPT || !keep(&channel->out, octets, length)) {
-        fail(channel, ENOBUFS);
+        fail(channel, why_failed(ENOBUFS));
     } else {
         send_kept(channel);
     }
@@ -142,9 +152,9 @@ void send_on_channel(uint64_t number, const uint8_t *octets, size_t length) {
 static void receive(struct channel *channel) {
     ssize_t got = recv(channel->fd, room, sizeof room, 0);
     if (got < 0 && (errno == EAGAIN || errno == EINTR)) return;
-    if (got < 0 || (got == 0 && channel->is_stream)) return fail(channel, got == 0 ? 0 : errno);
+    if (got < 0 || (got == 0 && channel->is_stream)) return fail(channel, why_failed(got == 0 ? 0 : errno));
     uint8_t status = yimarotu_forwarder_came(&forwarder, channel->number, room, (size_t)got, moment);
-    if (status == YIMAROTU_NO_MEMORY && channel->is_stream) fail(channel, ENOMEM);
+    if (status == YIMAROTU_NO_MEMORY && channel->is_stream) fail(channel, why_failed(ENOMEM));
 }
 
 void on_channel(uint64_t number, uint32_t events) {

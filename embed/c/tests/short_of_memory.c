@@ -1,6 +1,6 @@
 /* A machine that is short of memory. Loaded into a program before the C library (LD_PRELOAD) it refuses each request while
- * the first of two numbers of eight octets, in the file that the variable SHORT names, is not 0, and counts in the second
- * how many it refused. */
+ * the first of three numbers of eight octets, in the file that the variable SHORT names, is not 0, and counts in the
+ * second how many it refused. As many messages as the third says have no room in the kernel. */
 #define _GNU_SOURCE
 #include <errno.h>
 #include <fcntl.h>
@@ -8,6 +8,7 @@
 #include <stdint.h>
 #include <stdlib.h>
 #include <sys/mman.h>
+#include <sys/socket.h>
 #include <unistd.h>
 
 void *__libc_malloc(size_t length);
@@ -20,7 +21,7 @@ static volatile uint64_t *numbers;
 __attribute__((constructor)) static void begin(void) {
     const char *path = getenv("SHORT");
     int file = path == NULL ? -1 : open(path, O_RDWR | O_CLOEXEC);
-    void *at = file < 0 ? MAP_FAILED : mmap(NULL, 2 * sizeof *numbers, PROT_READ | PROT_WRITE, MAP_SHARED, file, 0);
+    void *at = file < 0 ? MAP_FAILED : mmap(NULL, 3 * sizeof *numbers, PROT_READ | PROT_WRITE, MAP_SHARED, file, 0);
     if (file >= 0) close(file);
     if (at == MAP_FAILED) abort();
     numbers = at;
@@ -40,3 +41,10 @@ void *calloc(size_t count, size_t length) { return is_refused() ? NULL : __libc_
 void *realloc(void *at, size_t length) { return is_refused() ? NULL : __libc_realloc(at, length); }
 
 void *aligned_alloc(size_t alignment, size_t length) { return is_refused() ? NULL : __libc_memalign(alignment, length); }
+
+ssize_t send(int socket, const void *octets, size_t length, int flags) {
+    if (numbers == NULL || numbers[2] == 0) return sendto(socket, octets, length, flags, NULL, 0);
+    numbers[2]--;
+    errno = ENOBUFS;
+    return -1;
+}

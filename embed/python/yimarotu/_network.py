@@ -14,7 +14,8 @@ from ._driven import DrivenSession
 from ._settings import Opening
 
 # Errors of this machine, and not of the way to the server.
-LOCAL = {errno.EMFILE, errno.ENFILE, errno.ENOBUFS, errno.ENOMEM, errno.EADDRNOTAVAIL}
+# A channel cannot be opened, since no descriptor, no memory or no port is left.
+LOCAL = {errno.EMFILE, errno.ENFILE, errno.ENOBUFS, errno.ENOMEM, errno.EADDRNOTAVAIL, errno.EAGAIN}
 NOT_YET = {errno.EAGAIN, errno.EWOULDBLOCK, errno.EINTR, errno.EINPROGRESS, errno.ENOTCONN, errno.EALREADY}
 # The most octets that are read at once: a whole datagram.
 MOST = 65535
@@ -121,7 +122,7 @@ class Network:
         try:
             sock = _connected(place)
         except OSError as error:
-            self._failed(number, error)
+            self._failed(number, error, error.errno in LOCAL)
             return
         self.channels[number] = channel = Channel(number, sock, place.server)
         self.watch(channel)
@@ -178,11 +179,12 @@ class Network:
             self.unwatch(channel)
         self._failed(channel.number, error)
 
-    def _failed(self, number: int, error: Optional[OSError]) -> None:
+    def _failed(self, number: int, error: Optional[OSError], is_local: bool = False) -> None:
+        """Octets may have gone out on one that was opened: it failed as one that leads nowhere, whatever was wanting."""
         why = numbers.CHANNEL_UNREACHABLE
         if error is None:
             why = numbers.CHANNEL_CLOSED
-        elif error.errno in LOCAL:
+        elif is_local:
             why = numbers.CHANNEL_LOCAL
         elif error.errno == errno.ECONNREFUSED:
             why = numbers.CHANNEL_REFUSED

@@ -54,7 +54,7 @@ impl Network {
         protocol: Protocol,
         server: SocketAddr,
     ) -> Result<(), ChannelFailure> {
-        let socket = socket_to(server, protocol).map_err(|error| failure_of(&error))?;
+        let socket = socket_to(server, protocol).map_err(|error| failure_to_open(&error))?;
         self.polled.push(PollFd {
             fd: socket.fd(),
             events: system::POLLIN,
@@ -78,7 +78,7 @@ impl Network {
                 _ => Ok(()),
             },
             Socket::Stream { out, .. } if out.len() + octets.len() > OUT => {
-                Err(ChannelFailure::Local)
+                Err(ChannelFailure::Unreachable)
             }
             Socket::Stream { out, .. } => {
                 out.extend_from_slice(octets);
@@ -219,14 +219,24 @@ fn is_for_later(error: &io::Error) -> bool {
     of_now.contains(&error.kind())
 }
 
-fn failure_of(error: &io::Error) -> ChannelFailure {
+/// Why a channel could not be opened.
+fn failure_to_open(error: &io::Error) -> ChannelFailure {
     let is_of_number = [system::EMFILE, system::ENFILE, system::ENOBUFS]
         .contains(&error.raw_os_error().unwrap_or_default());
     match error.kind() {
         _ if is_of_number => ChannelFailure::Local,
-        ErrorKind::OutOfMemory | ErrorKind::AddrNotAvailable | ErrorKind::AddrInUse => {
-            ChannelFailure::Local
-        }
+        ErrorKind::OutOfMemory
+        | ErrorKind::AddrNotAvailable
+        | ErrorKind::AddrInUse
+        | ErrorKind::WouldBlock => ChannelFailure::Local,
+        _ => failure_of(error),
+    }
+}
+
+/// Why a channel failed that was opened. Octets may have gone out on it, so whatever is wanting
+/// here, it is no more than a channel that leads nowhere.
+fn failure_of(error: &io::Error) -> ChannelFailure {
+    match error.kind() {
         ErrorKind::ConnectionRefused => ChannelFailure::Refused,
         _ => ChannelFailure::Unreachable,
     }

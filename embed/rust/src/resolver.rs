@@ -503,7 +503,7 @@ fn hand_in(session: &mut Session, channel: u64, event: &Event<'_>) -> Result<(),
     match event {
         Event::Failed(failure) => session.failed(channel, *failure, now)?,
         Event::Came(octets) => session.came(channel, octets, now).or_else(|error| {
-            session.failed(channel, ChannelFailure::Local, now)?;
+            session.failed(channel, ChannelFailure::Unreachable, now)?;
             Err(error)
         })?,
     }
