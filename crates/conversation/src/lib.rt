@@ -20,5 +20,5 @@ mod writing;
 pub use conversation::Conversation;
 pub use fault::ConversationFault;
 pub use heard::Heard;
-pub use hickory_resolver::Hosts;
+pub use hickory_resolver::{Hosts, HostsError};
 pub use reading::mark_of;

@@ -7,7 +7,7 @@ mod error;
 mod serving;
 
 use arguments::{Arguments, read_arguments};
-use error::ServeError;
+use error::{ServeError, is_memory};
 use serving::{serve, table_bytes};
 use std::process::ExitCode;
 use std::{fs, io};
@@ -61,6 +61,7 @@ fn serve_into(rt: &HostRuntime, hosts: Vec<u8>, path: String) -> Result<(), Serv
             drop(journal);
             served
         }
+        Err(error) if is_memory(&error) => Err(ServeError::Memory),
         Err(_) => Err(ServeError::Unwritable(path)),
     }
 }

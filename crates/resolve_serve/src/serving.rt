@@ -1,6 +1,6 @@
 //! The loop over the lines of the input.
 use crate::error::{ServeError, is_memory};
-use conversation::{Conversation, Heard, Hosts, mark_of};
+use conversation::{Conversation, Heard, Hosts, HostsError, mark_of};
 use std::alloc::{AllocError, Global};
 use std::fs;
 use std::io::{self, BufRead, Write};
@@ -34,12 +34,12 @@ fn unreadable(error: io::Error, path: String) -> ServeError {
 
 fn checked(alloc: Global, bytes: Vec<u8>) -> Result<Vec<u8>, ServeError> {
     let mut table: Hosts = Hosts::default(alloc);
-    let is_read = table.read_hosts_bytes(&bytes, 0).is_ok();
+    let read = table.read_hosts_bytes(&bytes, 0);
     drop(table);
-    if is_read {
-        Ok(bytes)
-    } else {
-        Err(ServeError::HostsNotUtf8)
+    match read {
+        Ok(()) => Ok(bytes),
+        Err(HostsError::OutOfMemory) => Err(ServeError::Memory),
+        Err(_) => Err(ServeError::HostsNotUtf8),
     }
 }
 
