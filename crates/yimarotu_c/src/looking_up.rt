@@ -183,7 +183,7 @@ fn failure_of(number: u8) -> Option<NetError>
     }
 }
 
-/// Forgets the look-up of a number, at a moment.
+/// Forgets the look-up of a number, at a moment (milliseconds).
 #[unsafe(no_mangle)]
 pub extern "C" fn yimarotu_cancel(
     alloc: Global,

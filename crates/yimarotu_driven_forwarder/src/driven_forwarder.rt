@@ -253,7 +253,7 @@ impl DrivenForwarder {
         }
     }
 
-    /// Octets came on a channel. A refused call changes nothing.
+    /// Octets came on a channel, at a moment (milliseconds). A refused call changes nothing.
     pub fn came(&mut self, channel: u64, octets: &[u8], now: u64) -> Result<(), AllocError>
         ensures ok { OnOk result (self.new ≡ over_forwarder (λ f. moment_passes now
             (with_pool (after_octets channel octets.now now f.pool) f)) self.old) }
@@ -262,7 +262,7 @@ impl DrivenForwarder {
         self.forwarder.came(channel, octets, now)
     }
 
-    /// A channel failed. A refused call changes nothing.
+    /// A channel failed, at a moment (milliseconds). A refused call changes nothing.
     pub fn failed(&mut self, channel: u64, why: Failure, now: u64) -> Result<(), AllocError>
         ensures ok { OnOk result (self.new
             ≡ over_forwarder (channel_failed (record { channel = channel; why = why }) now) self.old) }
@@ -271,7 +271,7 @@ impl DrivenForwarder {
         self.forwarder.failed(channel, why, now)
     }
 
-    /// Time passed.
+    /// Time passed up to a moment (milliseconds).
     pub fn tick(&mut self, now: u64)
         ensures { self.new ≡ over_forwarder (at_moment now) self.old }
     {
@@ -361,7 +361,7 @@ impl DrivenForwarder {
         self.forwarder.reply()
     }
 
-    /// The earliest moment at which time ends something, where nothing is left to be done.
+    /// The earliest moment (milliseconds) at which time ends something, where nothing is left to be done.
     pub fn next_deadline(&self) -> Option<u64>
         ensures { result ≡ deadline_of self.now.forwarder }
     {

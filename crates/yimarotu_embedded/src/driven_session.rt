@@ -91,7 +91,7 @@ impl DrivenSession {
         waits
     }
 
-    /// Octets came on a channel.
+    /// Octets came on a channel, at a moment (milliseconds). A refused call changes nothing.
     pub fn came(&mut self, channel: u64, octets: &[u8], now: u64) -> Result<(), AllocError>
         ensures ok { OnOk result (self.new
             ≡ over_network (with_pool (after_octets channel octets.now now self.old.session.pool)) self.old) }
@@ -100,7 +100,7 @@ impl DrivenSession {
         self.session.came(channel, octets, now)
     }
 
-    /// A channel failed.
+    /// A channel failed, at a moment (milliseconds). A refused call changes nothing.
     pub fn failed(&mut self, channel: u64, why: Failure, now: u64) -> Result<(), AllocError>
         ensures ok { OnOk result (self.new ≡ over_network
             (with_pool (after_failure (record { channel = channel; why = why }) now self.old.session.pool)) self.old) }
@@ -109,14 +109,14 @@ impl DrivenSession {
         self.session.failed(channel, why, now)
     }
 
-    /// Time passed.
+    /// Time passed up to a moment (milliseconds).
     pub fn tick(&mut self, now: u64)
         ensures { self.new ≡ over_network (with_pool (after_tick now self.old.session.pool)) self.old }
     {
         self.session.tick(now);
     }
 
-    /// Forgets the look-up of a number, at a moment, and tells whether there was one.
+    /// Forgets the look-up of a number, at a moment (milliseconds), and tells whether there was one.
     pub fn cancel(&mut self, number: u64, now: u64) -> Result<bool, AllocError>
         ensures ok { IfOk result (λ was_there. Cancels number now self.old.session was_there self.new.session) }
         ensures stays { self.new ≡ record self.old { session = self.new.session } }
@@ -183,7 +183,7 @@ impl DrivenSession {
         self.action = None;
     }
 
-    /// The earliest moment at which time ends something, where nothing is left to be done.
+    /// The earliest moment (milliseconds) at which time ends something, where nothing is left to be done.
     pub fn next_deadline(&self) -> Option<u64>
         ensures { result ≡ next_deadline self.now.session.pool.traffic }
     {

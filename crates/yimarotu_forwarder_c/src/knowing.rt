@@ -133,7 +133,7 @@ fn counts_of(forwarder: &DrivenForwarder) -> YimarotuForwarderCounts
         prefetched: counts.prefetched,
         sent: forwarder.sent(),
         waiting: forwarder.waiting(),
-        entries: forwarder.cache_len() as u64,
+        entries: forwarder.cache_len(),
         octets: forwarder.cache_octets(),
     }
 }
