@@ -161,13 +161,13 @@ typedef struct yimarotu_opened {
 } yimarotu_opened;
 
 /* Opens a session that asks by itself: as a file resolv.conf says on a host of this name (whom it asks and how, which names
- * it tries), over what a file of hosts says. A file of no octets says as much as one without lines; no resolv.conf is
- * refused. The settings are lines (yimarotu(3), SETTINGS): what they set counts in place of what resolv.conf says, but
- * domains of lines `search` come behind its. Set `option cache_octets N` where answers come from strangers.
- * The seed is 32 octets that nobody knows (getrandom): ids of messages, letters and the keys by which names are hashed come
- * from it, so that a stranger can neither guess a message nor make a session slow. The addresses that the hosts answer are
- * said to be usable for a day from this moment, however late they are asked, and the names of an address for a day from the
- * question. Where the status is not YIMAROTU_OK the session stays as it was. */
+ * it tries), over what a file of hosts says. A file of no octets says as much as one without lines; a resolv.conf is not
+ * refused, whatever its octets. The settings are lines (yimarotu(3), SETTINGS): what they set counts in place of what
+ * resolv.conf says, but domains of lines `search` come behind its. Set `option cache_octets N` where answers come from
+ * strangers. The seed is 32 octets that nobody knows (getrandom): ids of messages, letters and the keys by which names are
+ * hashed come from it, so that a stranger can neither guess a message nor make a session slow. The addresses that the
+ * hosts answer are said to be usable for a day from this moment, however late they are asked, and the names of an address
+ * for a day from the question. Where the status is not YIMAROTU_OK the session stays as it was. */
 yimarotu_opened yimarotu_open(yimarotu_session *session, const uint8_t *conf, size_t conf_length,
                               const uint8_t *hostname, size_t hostname_length, const uint8_t *settings,
                               size_t settings_length, const uint8_t *hosts, size_t hosts_length, const uint8_t *seed,
@@ -332,7 +332,7 @@ yimarotu_opened yimarotu_open_fed(yimarotu_session *session, const uint8_t *sett
 /* Opens such a session, and behind the settings, in place of which it counts, is what a file resolv.conf says on a host of
  * this name: its search list behind theirs, `ndots`, which is 1 where it says none, `no-aaaa`, and whether questions have
  * an EDNS record: not without `edns0`. Whom to ask, and how, is the program's affair. A file of no octets says as much as
- * one without lines; none is refused. */
+ * one without lines, and whatever its octets, it is not refused. */
 yimarotu_opened yimarotu_open_fed_with(yimarotu_session *session, const uint8_t *conf, size_t conf_length,
                                        const uint8_t *hostname, size_t hostname_length, const uint8_t *settings,
                                        size_t settings_length, const uint8_t *hosts, size_t hosts_length,
@@ -405,9 +405,9 @@ enum {
 
 /* Opens a forwarder: as a file resolv.conf says on a host of this name (its servers, and how they are asked), and over it
  * settings, which are lines (yimarotu-forward.conf(5), from `server` on); over what a file of hosts says; and over a file
- * of blocked names. A file of no octets says as much as one without lines. No resolv.conf is refused, and no file of
- * blocked names. The seed is 32 octets that nobody knows (getrandom). Where the status is not YIMAROTU_OK the forwarder
- * stays as it was. */
+ * of blocked names. A file of no octets says as much as one without lines. A resolv.conf is not refused, nor is a file of
+ * blocked names, whatever its octets. The seed is 32 octets that nobody knows (getrandom). Where the status is not
+ * YIMAROTU_OK the forwarder stays as it was. */
 yimarotu_opened yimarotu_forwarder_open(yimarotu_forwarder *forwarder, const uint8_t *conf, size_t conf_length,
                                         const uint8_t *hostname, size_t hostname_length, const uint8_t *settings,
                                         size_t settings_length, const uint8_t *hosts, size_t hosts_length,

@@ -1,5 +1,5 @@
-/* The log of queries: a line for each reply, "MOMENT CLIENT udp|tcp NAME TYPE CODE". It never waits: lines that the
- * file or the pipe does not take at once are dropped and counted. */
+/* The log of queries: a line for each reply, "MOMENT CLIENT udp|tcp NAME TYPE CODE". It never waits for a pipe: lines that
+ * the file or the pipe does not take at once are dropped and counted. */
 #include "forward.h"
 
 #include <arpa/inet.h>
