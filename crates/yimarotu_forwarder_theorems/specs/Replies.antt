@@ -1,4 +1,4 @@
--- Each request that was told to wait is replied to once, in its turn.
+-- Each request that was told to wait is replied to once at the most, in its turn.
 use Rattle.std.specs.Prelude.{◌≡◌, ℕ, Bool, List, [], ◌∷◌, ◌++◌, length, take, drop, filter, Option, None, Some, if◌then◌else◌}
 use Rattle.std.specs.List.{AllByRecursion}
 use Rattle.std.specs.Option.{option_and_then, option_map_or, option_to_list}
