@@ -1,5 +1,5 @@
 -- What was said of a transaction stays said, whatever happens later.
-use Rattle.std.proofs.Common.{◌≡◌, ◌∙◌, List, ◌++◌, sym, ap}
+use Rattle.std.proofs.Common.{◌∙◌, List, ◌++◌, sym, ap}
 use Rattle.std.proofs.lemmas.List.{append_assoc}
 use Rattle.hickory_resolver_pool.specs.Over.{OverValue}
 use Rattle.hickory_resolver_pool.specs.Pool.{PoolState}

@@ -1,5 +1,5 @@
 -- Each reply that a forwarder makes an answer of is octets that came from a server and were believed.
-use Rattle.std.specs.Prelude.{◌≡◌, ℕ, List, [], Some}
+use Rattle.std.specs.Prelude.{◌≡◌, ℕ, List, Some}
 use Rattle.hickory_proto_wire.specs.declared.wire_message.WireMessage.{WireMessage}
 use Rattle.hickory_resolver_config.specs.ResolverConfig.{OptionsValue as PoolOptions}
 use Rattle.hickory_resolver_flights.specs.Flights.{KeptValue}

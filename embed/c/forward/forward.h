@@ -61,12 +61,14 @@ void drop(struct octets *octets, size_t length);
  * how many there are. */
 size_t read_settings(const char *path, struct settings *settings, struct files *files);
 void free_files(struct files *files);
-bool open_forwarder(const char *path, const struct settings *settings, struct files *files);
+/* Whether what was read can be served: where it has no fault, memory or a seed may be wanting. */
+enum opened { OPENED, HAS_FAULTS, IS_WANTING };
+enum opened open_forwarder(const char *path, const struct settings *settings, struct files *files);
 enum reloaded { ALL_STAYS, LOG_STAYS, READ_AGAIN };
 /* Where the files have a fault all stays as it was; where only the log cannot be opened that does. */
 enum reloaded reload_forwarder(const char *path);
-/* Tells all faults, also those that the library finds; gives how many there are. */
-size_t check(const char *path);
+/* Tells all faults, also those that the library finds. */
+enum opened check(const char *path);
 bool is_none(const struct word *path);
 
 /* ---- listeners.c: the sockets that clients come to */

@@ -21,7 +21,7 @@
 #include <unistd.h>
 
 enum { WITHOUT_MEMORY = 50 }; /* milliseconds */
-enum { ENDED = 0, FAULTS = 1, USAGE = 2, NO_SOCKETS = 3, NOT_CONFINED = 4, UNFIT = 5 }; /* how the program ends */
+enum { ENDED = 0, FAULTS = 1, USAGE = 2, WANTING = 3, NOT_CONFINED = 4, UNFIT = 5 }; /* how the program ends */
 
 yimarotu_forwarder forwarder = YIMAROTU_FORWARDER;
 uint64_t moment;
@@ -181,14 +181,18 @@ static void tell_that_it_is_ready(void) {
     if (fd >= 0) close(fd);
 }
 
+static int status_of(enum opened opened) {
+    return opened == OPENED ? ENDED : opened == HAS_FAULTS ? FAULTS : WANTING;
+}
+
 /* Serves with the sockets of a process. */
 static int run(const struct listeners *listeners) {
     own = listeners;
     moment = now();
-    bool is_open = open_forwarder(settings_path, &settings, &files);
+    int status = status_of(open_forwarder(settings_path, &settings, &files));
     free_files(&files);
-    if (!is_open) return FAULTS;
-    if (!watch_all()) return perror("yimarotu-forward: epoll, or signalfd"), NO_SOCKETS;
+    if (status != ENDED) return status;
+    if (!watch_all()) return perror("yimarotu-forward: epoll, or signalfd"), WANTING;
     if (settings.processes == 1) tell_that_it_is_ready();
     if (!confine()) return NOT_CONFINED;
     if (settings.processes == 1) tell_that_it_listens();
@@ -209,7 +213,7 @@ static time_t begun[PROCESSES];
 static void read_again(void) {
     static struct settings changed;
     struct files read;
-    if (check(settings_path) > 0) return;
+    if (check(settings_path) != OPENED) return;
     bool is_right = read_settings(settings_path, &changed, &read) == 0;
     free_files(is_right ? &files : &read);
     if (!is_right) return;
@@ -270,7 +274,7 @@ static int supervise(void) {
     block_signals(&set);
     signals = signalfd(-1, &set, SFD_NONBLOCK | SFD_CLOEXEC);
     read_by_one = eventfd(0, EFD_NONBLOCK | EFD_CLOEXEC);
-    if (signals < 0 || read_by_one < 0) return perror("yimarotu-forward: signalfd, or eventfd"), NO_SOCKETS;
+    if (signals < 0 || read_by_one < 0) return perror("yimarotu-forward: signalfd, or eventfd"), WANTING;
     close_log(); /* each process opens it */
     tell_that_it_is_ready();
     tell_that_it_listens();
@@ -344,11 +348,11 @@ static int prepare(void) {
         return fprintf(stderr, "yimarotu-forward: there is no user %s\n", settings.user.text), UNFIT;
     if (user == 0) fputs("yimarotu-forward: it keeps all rights of root: a line `user` is wanted\n", stderr);
     if (getrlimit(RLIMIT_NOFILE, &files) == 0) files.rlim_cur = files.rlim_max, setrlimit(RLIMIT_NOFILE, &files);
-    if (!take_activated(&all[0])) return NO_SOCKETS;
+    if (!take_activated(&all[0])) return WANTING;
     if (settings.processes > 1 && has_activated_control()) /* one of them would have each command */
         return fputs("yimarotu-forward: a control socket of systemd is for one process\n", stderr), UNFIT;
-    if (!listen_for_clients()) return NO_SOCKETS;
-    if (!listen_for_controls(user, group)) return errno == EPERM ? UNFIT : NO_SOCKETS; /* chown(2) wants rights */
+    if (!listen_for_clients()) return WANTING;
+    if (!listen_for_controls(user, group)) return errno == EPERM ? UNFIT : WANTING; /* chown(2) wants rights */
     if (!drop_rights(user, group)) return UNFIT;
     if (is_none(&settings.log) || open_log(settings.log.text)) return ENDED;
     return perror(settings.log.text), UNFIT;
@@ -363,8 +367,9 @@ static int begin(void) {
     signal(SIGXFSZ, SIG_IGN); /* a log as long as files may be: its lines are lost, and counted */
     signal(SIGCHLD, SIG_DFL); /* where whoever began it ignored it, no death would be told */
     if (read_settings(settings_path, &settings, &files) > 0) return FAULTS;
-    if (settings.processes > 1 && check(settings_path) > 0) return FAULTS;
-    int ended = prepare();
+    int ended = settings.processes > 1 ? status_of(check(settings_path)) : ENDED;
+    if (ended != ENDED) return ended;
+    ended = prepare();
     if (ended == ENDED) ended = settings.processes > 1 ? supervise() : run(&all[0]);
     remove_controls();
     return ended;
@@ -389,6 +394,6 @@ int main(int count, char **words) {
         else return USAGE;
     }
     if (settings_path == NULL || optind < count) return fputs(usage, stderr), USAGE;
-    if (is_check) return check(settings_path) > 0 ? FAULTS : ENDED;
+    if (is_check) return status_of(check(settings_path));
     return begin();
 }

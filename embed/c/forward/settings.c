@@ -166,13 +166,13 @@ void free_files(struct files *files) {
 
 /* ---- the library */
 
-/* What the library found; gives whether it was opened. */
-static bool tell_opened(const char *path, const struct settings *settings, yimarotu_opened opened) {
-    if (opened.status == YIMAROTU_OK) return true;
-    if (opened.status == YIMAROTU_HOSTS) tell(settings->hosts.text, opened.line, "it is not UTF-8");
-    else if (opened.status == YIMAROTU_SCRIPT) tell(path, opened.line, "it is no setting");
-    else tell(path, 0, opened.status == YIMAROTU_NO_MEMORY ? "no memory is left" : "the library was not opened");
-    return false;
+/* What the library found. */
+static enum opened tell_opened(const char *path, const struct settings *settings, yimarotu_opened opened) {
+    if (opened.status == YIMAROTU_OK) return OPENED;
+    if (opened.status == YIMAROTU_HOSTS) return tell(settings->hosts.text, opened.line, "it is not UTF-8"), HAS_FAULTS;
+    if (opened.status == YIMAROTU_SCRIPT) return tell(path, opened.line, "it is no setting"), HAS_FAULTS;
+    tell(path, 0, opened.status == YIMAROTU_NO_MEMORY ? "no memory is left" : "the library was not opened");
+    return IS_WANTING;
 }
 
 /* No pointer is null, not even that of no octets. */
@@ -186,7 +186,7 @@ static yimarotu_opened open_with(yimarotu_forwarder *opened, const struct files 
     return yimarotu_forwarder_open(opened, FILES(files), seed, sizeof seed, moment);
 }
 
-bool open_forwarder(const char *path, const struct settings *settings, struct files *files) {
+enum opened open_forwarder(const char *path, const struct settings *settings, struct files *files) {
     return tell_opened(path, settings, open_with(&forwarder, files));
 }
 
@@ -194,7 +194,7 @@ enum reloaded reload_forwarder(const char *path) {
     static struct settings settings;
     struct files files;
     bool is_right = read_settings(path, &settings, &files) == 0
-        && tell_opened(path, &settings, yimarotu_forwarder_reload(&forwarder, FILES(&files), moment));
+        && tell_opened(path, &settings, yimarotu_forwarder_reload(&forwarder, FILES(&files), moment)) == OPENED;
     free_files(&files);
     if (!is_right) return ALL_STAYS;
     if (is_none(&settings.log)) return close_log(), READ_AGAIN;
@@ -211,7 +211,7 @@ static bool blank(struct octets *text, size_t line) {
     return true;
 }
 
-size_t check(const char *path) {
+enum opened check(const char *path) {
     static struct settings settings;
     struct files files;
     uid_t user;
@@ -219,14 +219,15 @@ size_t check(const char *path) {
     size_t faults = read_settings(path, &settings, &files);
     if (settings.user.line > 0 && !find_user(settings.user.text, &user, &group))
         tell(path, settings.user.line, "there is no such user"), faults++;
+    enum opened last = OPENED;
     while (faults < FAULTS) {
         yimarotu_forwarder opened = YIMAROTU_FORWARDER;
         yimarotu_opened found = open_with(&opened, &files);
         yimarotu_forwarder_close(&opened);
-        if (tell_opened(path, &settings, found)) break;
-        faults++;
+        last = tell_opened(path, &settings, found);
+        if (last == HAS_FAULTS) faults++;
         if (found.status != YIMAROTU_SCRIPT || !blank(&files.settings, found.line)) break;
     }
     free_files(&files);
-    return faults;
+    return faults > 0 ? HAS_FAULTS : last;
 }
