@@ -22,7 +22,7 @@ after_event s is_admitted = admitted s
 abbrev pub after_events : AskersState → List AskersEvent → AskersState
 after_events s events = fold after_event s events
 
--- its number was given: the next one is greater, so that none is given twice
+-- its number was given: the next one is greater
 abbrev pub HasOldNumber : {A : Type 0} → ℕ → ℕ × A → Type 0
 HasOldNumber next p = p.0 < next
 

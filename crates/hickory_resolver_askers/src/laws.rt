@@ -1,7 +1,7 @@
 //! What holds after every list of events.
 ghost use Rattle.hickory_resolver_askers.specs.Laws.{StaysWithinLimits};
 
-/// Transactions stay within their limits, and no number is given twice, whatever comes.
+/// Transactions stay within their limits, and the next number is greater than that of each, whatever comes.
 pub fn stays_within_limits()
     ensures { StaysWithinLimits }
 {}

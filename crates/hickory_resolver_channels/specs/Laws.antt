@@ -27,7 +27,7 @@ after_events s events = fold after_event s events
 abbrev pub HasFewTries : ChannelLimits → ℕ × Channel → Type 0
 HasFewTries limits p = p.1.tries ≤ most_on limits p.1.kind
 
--- its number was given: the next one is greater, so that none is given twice
+-- its number was given: the next one is greater
 abbrev pub HasOldNumber : ℕ → ℕ × Channel → Type 0
 HasOldNumber next p = p.0 < next
 

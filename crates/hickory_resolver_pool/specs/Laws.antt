@@ -40,8 +40,8 @@ pub data Reached (start : PoolState) : PoolState → Type 0 where
 
 -- ---- bounded
 
--- Channels, tries on each of them, transactions in flight and those that wait are within the limits, and no number of
--- them is given twice.
+-- Channels, tries on each of them, transactions in flight and those that wait are within the limits, and the number that
+-- a channel or a transaction is given next is greater than that of each that there is.
 pub record IsBounded (limits : TrafficLimits) (s : PoolState) : Type 0 where
   pub channels : channels.IsWithinLimits limits.channels s.traffic.shared.channels
   pub askers : askers.IsWithinLimits limits.askers s.traffic.askers

@@ -1,7 +1,6 @@
 //! A pool of name servers without a socket: events in, actions out. Who is asked, which reply is believed, when it is
-//! asked
-//! again and what a question comes to is decided here; a program around it opens sockets, moves octets and tells the
-//! time.
+//! asked again and what a question comes to is decided here; a program around it opens sockets, moves octets and tells
+//! the time.
 #![tactic(auto)]
 
 pub mod laws;

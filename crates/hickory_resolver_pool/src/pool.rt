@@ -60,8 +60,8 @@ pub enum Action {
 pub type Questions<S> = IndexMap<(u64, PoolQuestion), u64, S>;
 
 /// A pool of name servers. Events take in what came, and `next_action` does what follows of it, one step a call: after
-/// each event, and before the next, it is called until it answers `None`. All of it is a function of the seed and the
-/// events; the hasher decides nothing that is seen.
+/// each event, and before the next, it is called until it answers `None`. Moments are milliseconds of one clock. All of it
+/// is a function of the seed and the events; the hasher decides nothing that is seen.
 #[derive(Drop)]
 pub struct NameServerPool<S: BuildHasher> {
     alloc: Global,
@@ -291,8 +291,7 @@ impl<S: BuildHasher> NameServerPool<S> {
 
     // ---- steps
 
-    /// Does the next step, and answers what the program has to do for it; `None` where nothing is left to be done.
-    /// Where
+    /// Does the next step, and answers what the program has to do for it; `None` where nothing is left to be done. Where
     /// memory is refused nothing changes, and it may be called again.
     pub fn next_action(&mut self) -> Result<Option<Action>, AllocError>
         ensures ok { IfOk result (λ action. Steps self.old action self.new) }

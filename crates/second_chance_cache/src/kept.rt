@@ -32,7 +32,7 @@ impl<V> Model for Kept<V> {
 }
 
 impl<V> Kept<V> {
-    // A value that was not asked for yet.
+    /// A value that was not asked for yet.
     pub fn new(
         alloc: Global,
         key: &[u8],

@@ -8,9 +8,9 @@ use Rattle.client_requests.specs.Keys.{key_eq}
 use Rattle.client_requests.specs.Requests.{RequestValue}
 use Rattle.whole_lookups.specs.Lookups.{LookupValue}
 
--- How far a look-up is, whether the servers are asked not to check (CD), the second at which the first of its replies
--- came, the generation of local data under which it began, the moment at which it did (milliseconds), and the requests
--- that wait, first come first.
+-- How far a look-up is, whether the servers are asked not to check (CD), the second at which the pool told the first of
+-- its replies, the generation of local data under which it began, the moment at which it did (milliseconds), and the
+-- requests that wait, first come first.
 pub record FetchValue : Type 0 where
   pub lookup : LookupValue
   pub checking_disabled : Bool

@@ -102,11 +102,11 @@ with_end key end f s = record s { failures = noted_of key end f s }
 abbrev pub EndsFetch : List ℕ → FetchEnd → FetchValue → ForwarderValue → ForwarderValue → Type 0
 EndsFetch key end f before after = Finishes key end f (with_end key end f before) after
 
--- the earlier of that at which the first of its replies came, where one did, and this one
+-- the earlier of that at which the pool told the first of its replies, where it did, and this one
 abbrev pub earlier_second : Option ℕ → ℕ → ℕ
 earlier_second heard second = option_map_or (λ first. min first second) heard second
 
--- It counts from the second at which the first of its replies came, so that no record outlives what was received.
+-- It counts from the second at which the pool told the first of its replies, so that no record outlives what was told.
 abbrev pub first_second : FetchValue → ForwarderValue → ℕ
 first_second f s = earlier_second f.heard (second_of s)
 
@@ -161,7 +161,7 @@ told_of over f =
 abbrev pub lookup_after : OverValue → FetchValue → LookupValue
 lookup_after over f = option_map_or (λ m. whole.after m f.lookup) (response_of over) f.lookup
 
--- the second at which the first of its replies came, once it hears this
+-- the second at which the pool told the first of its replies, once it hears this
 abbrev pub heard_after : Told → ℕ → Option ℕ → Option ℕ
 heard_after told.Asks second heard = Some (earlier_second heard second)
 heard_after other second heard = heard

@@ -67,7 +67,8 @@ impl Forwarder {
         }
     }
 
-    // The whole reply as it is told and stored. It counts from the second at which the first of its replies came.
+    // The whole reply as it is told and stored. It counts from the second at which the pool told the first of its
+    // replies.
     fn whole_end(&self, fetch: &Fetch, kept: KeptReply) -> Result<FetchEnd, AllocError>
         ensures { IfOk result (λ end. end ≡ whole_end kept fetch.now self.now) }
     {

@@ -13,8 +13,8 @@ use std::collections::VecDeque;
 use std::marker::Model;
 use whole_lookups::WholeLookup;
 
-// A question that is looked up: how far it is, whether the servers are asked not to check, the second at which the
-// first of its replies came, the generation of local data under which it began, the moment at which it did, and the
+// A question that is looked up: how far it is, whether the servers are asked not to check, the second at which the pool
+// told the first of its replies, the generation of local data under which it began, the moment at which it did, and the
 // requests that wait, first come first.
 #[derive(Drop)]
 pub struct Fetch {
@@ -64,7 +64,7 @@ impl Fetch {
         self.lookup.count
     }
 
-    // The second at which the first of its replies came, or this one, whichever is earlier.
+    // The second at which the pool told the first of its replies, or this one, whichever is earlier.
     pub(crate) fn first_second(&self, second: u64) -> u64
         ensures { result ≡ earlier_second self.now.heard second }
     {
@@ -94,7 +94,7 @@ impl Fetch {
         }
     }
 
-    // The second at which the first reply came that leads on is noted.
+    // The second at which the pool told the first reply that leads on is noted.
     fn note(&mut self, told: Told, second: u64) -> Told
         ensures told { result ≡ told }
         ensures heard { self.new ≡ record self.old { heard = heard_after told second self.old.heard } }

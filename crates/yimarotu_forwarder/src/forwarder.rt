@@ -229,6 +229,7 @@ impl Forwarder {
     {
         self.reply.as_slice()
     }
+
     // ---- numbers
 
     /// How many queries came, and what became of them.
@@ -257,12 +258,5 @@ impl Forwarder {
         ensures { result ≡ all_weight self.now.cache.entries }
     {
         self.cache.octets()
-    }
-
-    /// How many replies are kept at the most, and how many octets of memory they take at the most.
-    pub fn cache_bounds(&self) -> CacheBounds
-        ensures { result ≡ self.now.cache.bounds }
-    {
-        self.cache.bounds()
     }
 }
