@@ -130,28 +130,32 @@ module _ (t : TrafficState) where
 
   came-other : IsOther (came_in t)
   came-other =
-      or-other (failure_in t) (option_or (message_in t)
-      (option_or (option_map task.Cuts (first_unread t.inbox)) (option_map task.TakesReady (slice_get t.ready 0))))
+      or-other (failure_in t) (option_or (message_in t) (option_or cuts (option_or (free_in t) ready)))
       (map-other (failure_task t) (first_failure t.inbox) failure-other)
-      (or-other (message_in t)
-      (option_or (option_map task.Cuts (first_unread t.inbox)) (option_map task.TakesReady (slice_get t.ready 0)))
+      (or-other (message_in t) (option_or cuts (option_or (free_in t) ready))
       (map-other (λ m. message_task t m.channel m.octets) (first_message t.inbox) message-other)
-      (or-other (option_map task.Cuts (first_unread t.inbox)) (option_map task.TakesReady (slice_get t.ready 0))
+      (or-other cuts (option_or (free_in t) ready)
       (map-other (λ channel. task.Cuts channel) (first_unread t.inbox) (λ channel. refl))
-      (map-other (λ n. task.TakesReady n) (slice_get t.ready 0) (λ n. refl))))
+      (or-other (free_in t) ready
+      (map-other (frees_or_unblocks t.table) (free_one t)
+      (λ n. if-other (has_entry n t.table) (task.TakesUp n Free) (task.Unblocks n) refl refl))
+      (map-other (λ n. task.TakesReady n) (slice_get t.ready 0) (λ n. refl)))))
+    where
+      cuts : Option Task
+      cuts = option_map task.Cuts (first_unread t.inbox)
+
+      ready : Option Task
+      ready = option_map task.TakesReady (slice_get t.ready 0)
 
   ran-other : IsOther (ran_out t)
   ran-other =
-      or-other (due_in t) (option_or (late_in t) (option_or (free_in t) (idle_in t)))
+      or-other (due_in t) (option_or (late_in t) (idle_in t))
       (map-other (expires_or_undates t.table) (option_and_then (if_by t.clock) (first_due t.table))
       (λ due. if-other (has_entry due.1 t.table) (task.TakesUp due.1 Expire) (task.Undates due.0 due.1) refl refl))
-      (or-other (late_in t) (option_or (free_in t) (idle_in t))
+      (or-other (late_in t) (idle_in t)
       (map-other (refuses_or_strays t.table) (refused_one t)
       (λ n. if-other (has_entry n t.table) (task.TakesUp n Refuse) (task.Strays n) refl refl))
-      (or-other (free_in t) (idle_in t)
-      (map-other (frees_or_unblocks t.table) (free_one t)
-      (λ n. if-other (has_entry n t.table) (task.TakesUp n Free) (task.Unblocks n) refl refl))
-      (map-other (λ p. task.ClosesIdle p.1) (option_and_then (if_kept_enough t) (first_idle t.shared.channels)) (λ p. refl))))
+      (map-other (λ p. task.ClosesIdle p.1) (option_and_then (if_kept_enough t) (first_idle t.shared.channels)) (λ p. refl)))
 
   -- nothing goes out, nothing came, and nothing ran out
   pub record IsNothing : Type 0 where
@@ -172,22 +176,21 @@ module _ (t : TrafficState) where
       (ap (λ (what : Task). is_admit what) e) in
       let one = or-none out rest all in
       let two = or-none (came_in t) (ran_out t) one.1 in
-      let three = or-none (due_in t) (option_or (late_in t) (option_or (free_in t) (idle_in t))) two.1 in
-      let four = or-none (late_in t) (option_or (free_in t) (idle_in t)) three.1 in
-      let five = or-none (free_in t) (idle_in t) four.1 in
-      let ready = option_map task.TakesReady (slice_get t.ready 0) in
+      let three = or-none (due_in t) (option_or (late_in t) (idle_in t)) two.1 in
+      let four = or-none (late_in t) (idle_in t) three.1 in
+      let next = option_or (free_in t) (option_map task.TakesReady (slice_get t.ready 0)) in
       let cuts = option_map task.Cuts (first_unread t.inbox) in
-      let six = or-none (failure_in t) (option_or (message_in t) (option_or cuts ready)) two.0 in
-      let seven = or-none (message_in t) (option_or cuts ready) six.1 in
-      let eight = or-none cuts ready seven.1 in
+      let five = or-none (failure_in t) (option_or (message_in t) (option_or cuts next)) two.0 in
+      let six = or-none (message_in t) (option_or cuts next) five.1 in
+      let seven = or-none cuts next six.1 in
       record {
         out = map-none outgoing_task t.outgoing one.0;
-        failure = map-none (failure_task t) (first_failure t.inbox) six.0;
-        message = map-none (λ (m : MessageValue). message_task t m.channel m.octets) (first_message t.inbox) seven.0;
-        unread = map-none (λ (channel : ℕ). task.Cuts channel) (first_unread t.inbox) eight.0;
+        failure = map-none (failure_task t) (first_failure t.inbox) five.0;
+        message = map-none (λ (m : MessageValue). message_task t m.channel m.octets) (first_message t.inbox) six.0;
+        unread = map-none (λ (channel : ℕ). task.Cuts channel) (first_unread t.inbox) seven.0;
         due = map-none (expires_or_undates t.table) (option_and_then (if_by t.clock) (first_due t.table)) three.0;
         refused = map-none (refuses_or_strays t.table) (refused_one t) four.0;
-        idle = map-none (λ (p : ℕ × ℕ). task.ClosesIdle p.1) (option_and_then (if_kept_enough t) (first_idle t.shared.channels)) five.1;
+        idle = map-none (λ (p : ℕ × ℕ). task.ClosesIdle p.1) (option_and_then (if_kept_enough t) (first_idle t.shared.channels)) four.1;
       }
 
   -- ---- what is waited for

@@ -168,18 +168,6 @@ module _ (t : TrafficState) where
       by true opened = tries opened (first_try f.channel t.shared.channels) refl
       by false opened = some
 
-  why-came : WhyIf (came_in t)
-  why-came =
-      why-or (failure_in t) (option_or (message_in t)
-      (option_or (option_map task.Cuts (first_unread t.inbox)) (option_map task.TakesReady (slice_get t.ready 0))))
-      (why-map (failure_task t) (first_failure t.inbox) why-failure)
-      (why-or (message_in t)
-      (option_or (option_map task.Cuts (first_unread t.inbox)) (option_map task.TakesReady (slice_get t.ready 0)))
-      (why-map (λ m. message_task t m.channel m.octets) (first_message t.inbox) why-message)
-      (why-or (option_map task.Cuts (first_unread t.inbox)) (option_map task.TakesReady (slice_get t.ready 0))
-      (why-map (λ channel. task.Cuts channel) (first_unread t.inbox) (λ channel is. is))
-      (why-map (λ n. task.TakesReady n) (slice_get t.ready 0) (λ n is. is))))
-
   why-due : (due : ℕ × ℕ) → option_and_then (if_by t.clock) (first_due t.table) ≡ Some due
       → Why t (expires_or_undates t.table due)
   why-due due is = by (first_due t.table) refl is
@@ -221,6 +209,24 @@ module _ (t : TrafficState) where
       has found true h = found
       has found false h = (found, h)
 
+  why-came : WhyIf (came_in t)
+  why-came =
+      why-or (failure_in t) (option_or (message_in t) (option_or cuts (option_or (free_in t) ready)))
+      (why-map (failure_task t) (first_failure t.inbox) why-failure)
+      (why-or (message_in t) (option_or cuts (option_or (free_in t) ready))
+      (why-map (λ m. message_task t m.channel m.octets) (first_message t.inbox) why-message)
+      (why-or cuts (option_or (free_in t) ready)
+      (why-map (λ channel. task.Cuts channel) (first_unread t.inbox) (λ channel is. is))
+      (why-or (free_in t) ready
+      (why-map (frees_or_unblocks t.table) (free_one t) why-free)
+      (why-map (λ n. task.TakesReady n) (slice_get t.ready 0) (λ n is. is)))))
+    where
+      cuts : Option Task
+      cuts = option_map task.Cuts (first_unread t.inbox)
+
+      ready : Option Task
+      ready = option_map task.TakesReady (slice_get t.ready 0)
+
   why-idle : (p : ℕ × ℕ) → option_and_then (if_kept_enough t) (first_idle t.shared.channels) ≡ Some p
       → Why t (task.ClosesIdle p.1)
   why-idle p is = by (first_idle t.shared.channels) refl is
@@ -237,12 +243,10 @@ module _ (t : TrafficState) where
 
   why-ran : WhyIf (ran_out t)
   why-ran =
-      why-or (due_in t) (option_or (late_in t) (option_or (free_in t) (idle_in t)))
+      why-or (due_in t) (option_or (late_in t) (idle_in t))
       (why-map (expires_or_undates t.table) (option_and_then (if_by t.clock) (first_due t.table)) why-due)
-      (why-or (late_in t) (option_or (free_in t) (idle_in t)) late
-      (why-or (free_in t) (idle_in t)
-      (why-map (frees_or_unblocks t.table) (free_one t) why-free)
-      (why-map (λ p. task.ClosesIdle p.1) (option_and_then (if_kept_enough t) (first_idle t.shared.channels)) why-idle)))
+      (why-or (late_in t) (idle_in t) late
+      (why-map (λ p. task.ClosesIdle p.1) (option_and_then (if_kept_enough t) (first_idle t.shared.channels)) why-idle))
     where
       late : WhyIf (late_in t)
       late = why-map (refuses_or_strays t.table) (refused_one t) (λ n is. why-late n)

@@ -179,15 +179,23 @@ module _ (t : TrafficState) where
 
   fair-came : FairIf (came_in t)
   fair-came =
-      fair-or (failure_in t) (option_or (message_in t)
-      (option_or (option_map task.Cuts (first_unread t.inbox)) (option_map task.TakesReady (slice_get t.ready 0))))
+      fair-or (failure_in t) (option_or (message_in t) (option_or cuts (option_or (free_in t) ready)))
       (fair-map (failure_task t) (first_failure t.inbox) (λ f is. fair-failure f))
-      (fair-or (message_in t)
-      (option_or (option_map task.Cuts (first_unread t.inbox)) (option_map task.TakesReady (slice_get t.ready 0)))
+      (fair-or (message_in t) (option_or cuts (option_or (free_in t) ready))
       (fair-map (λ m. message_task t m.channel m.octets) (first_message t.inbox) (λ m is. fair-message m))
-      (fair-or (option_map task.Cuts (first_unread t.inbox)) (option_map task.TakesReady (slice_get t.ready 0))
+      (fair-or cuts (option_or (free_in t) ready)
       (fair-map (λ channel. task.Cuts channel) (first_unread t.inbox) (λ channel is k e. absurd cc))
-      (fair-map (λ n. task.TakesReady n) (slice_get t.ready 0) (λ n is k e. absurd cc))))
+      (fair-or (free_in t) ready
+      (fair-map (frees_or_unblocks t.table) (free_one t)
+      (λ n is. fair-if (has_entry n t.table) (task.TakesUp n todo.Free) (task.Unblocks n)
+      (λ k e. absurd cc) (λ k e. absurd cc)))
+      (fair-map (λ n. task.TakesReady n) (slice_get t.ready 0) (λ n is k e. absurd cc)))))
+    where
+      cuts : Option Task
+      cuts = option_map task.Cuts (first_unread t.inbox)
+
+      ready : Option Task
+      ready = option_map task.TakesReady (slice_get t.ready 0)
 
   fair-late : (m : ℕ) → refused_one t ≡ Some m → Fair (refuses_or_strays t.table m)
   fair-late m is =
@@ -196,18 +204,14 @@ module _ (t : TrafficState) where
 
   fair-ran : FairIf (ran_out t)
   fair-ran =
-      fair-or (due_in t) (option_or (late_in t) (option_or (free_in t) (idle_in t)))
+      fair-or (due_in t) (option_or (late_in t) (idle_in t))
       (fair-map (expires_or_undates t.table) (option_and_then (if_by t.clock) (first_due t.table))
       (λ due is. fair-if (has_entry due.1 t.table) (task.TakesUp due.1 todo.Expire) (task.Undates due.0 due.1)
       (λ k e. absurd cc) (λ k e. absurd cc)))
-      (fair-or (late_in t) (option_or (free_in t) (idle_in t))
+      (fair-or (late_in t) (idle_in t)
       (fair-map (refuses_or_strays t.table) (refused_one t) fair-late)
-      (fair-or (free_in t) (idle_in t)
-      (fair-map (frees_or_unblocks t.table) (free_one t)
-      (λ n is. fair-if (has_entry n t.table) (task.TakesUp n todo.Free) (task.Unblocks n)
-      (λ k e. absurd cc) (λ k e. absurd cc)))
       (fair-map (λ p. task.ClosesIdle p.1) (option_and_then (if_kept_enough t) (first_idle t.shared.channels))
-      (λ p is k e. absurd cc))))
+      (λ p is k e. absurd cc)))
 
   fair-out : (o : OutgoingValue) → Fair (outgoing_task o)
   fair-out o = fair-if o.sending.is_new task.Opens task.Writes (λ k e. absurd cc) (λ k e. absurd cc)

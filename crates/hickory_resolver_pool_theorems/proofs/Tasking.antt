@@ -222,37 +222,39 @@ module _ (t : TrafficState) where
 
     task-ran : slice_get t.ready 0 ≡ None → TaskIf (ran_out t)
     task-ran calm =
-        task-or (due_in t) (option_or (late_in t) (option_or (free_in t) (idle_in t)))
+        task-or (due_in t) (option_or (late_in t) (idle_in t))
         (task-map (expires_or_undates t.table) (option_and_then (if_by t.clock) (first_due t.table)) (task-due calm))
-        (task-or (late_in t) (option_or (free_in t) (idle_in t))
+        (task-or (late_in t) (idle_in t)
         (task-map (refuses_or_strays t.table) (refused_one t) task-late)
-        (task-or (free_in t) (idle_in t)
-        (task-map (frees_or_unblocks t.table) (free_one t) task-free)
-        (task-map (λ p. task.ClosesIdle p.1) (option_and_then (if_kept_enough t) (first_idle t.shared.channels)) task-idle)))
+        (task-map (λ p. task.ClosesIdle p.1) (option_and_then (if_kept_enough t) (first_idle t.shared.channels)) task-idle))
+
+    abbrev goes_next : Option Task
+    goes_next = option_or (free_in t) (option_map task.TakesReady (slice_get t.ready 0))
 
     abbrev others : Option Task
-    others =
-        option_or (message_in t)
-        (option_or (option_map task.Cuts (first_unread t.inbox)) (option_map task.TakesReady (slice_get t.ready 0)))
+    others = option_or (message_in t) (option_or (option_map task.Cuts (first_unread t.inbox)) goes_next)
 
     task-others : TaskIf others
     task-others =
-        task-or (message_in t)
-        (option_or (option_map task.Cuts (first_unread t.inbox)) (option_map task.TakesReady (slice_get t.ready 0)))
+        task-or (message_in t) (option_or (option_map task.Cuts (first_unread t.inbox)) goes_next)
         (task-map (λ m. message_task t m.channel m.octets) (first_message t.inbox) task-message)
-        (task-or (option_map task.Cuts (first_unread t.inbox)) (option_map task.TakesReady (slice_get t.ready 0))
+        (task-or (option_map task.Cuts (first_unread t.inbox)) goes_next
         (task-map (λ channel. task.Cuts channel) (first_unread t.inbox) (λ channel is. is))
-        (task-map (λ n. task.TakesReady n) (slice_get t.ready 0) (λ n is. (sound, is))))
+        (task-or (free_in t) (option_map task.TakesReady (slice_get t.ready 0))
+        (task-map (frees_or_unblocks t.table) (free_one t) task-free)
+        (task-map (λ n. task.TakesReady n) (slice_get t.ready 0) (λ n is. (sound, is)))))
 
-    none-left : (a b : Option Task) (ready : Option ℕ) → option_or a (option_or b (option_map task.TakesReady ready)) ≡ None
-        → ready ≡ None
-    none-left None None None h = refl
-    none-left None None (Some n) h = absurd cc
-    none-left None (Some b) ready h = absurd cc
-    none-left (Some a) b ready h = absurd cc
+    none-left : (a b c : Option Task) (ready : Option ℕ)
+        → option_or a (option_or b (option_or c (option_map task.TakesReady ready))) ≡ None → ready ≡ None
+    none-left None None None None h = refl
+    none-left None None None (Some n) h = absurd cc
+    none-left None None (Some c) ready h = absurd cc
+    none-left None (Some b) c ready h = absurd cc
+    none-left (Some a) b c ready h = absurd cc
 
     calm-of : others ≡ None → slice_get t.ready 0 ≡ None
-    calm-of h = none-left (message_in t) (option_map task.Cuts (first_unread t.inbox)) (slice_get t.ready 0) h
+    calm-of h =
+        none-left (message_in t) (option_map task.Cuts (first_unread t.inbox)) (free_in t) (slice_get t.ready 0) h
 
   pub task-is : t.outgoing ≡ None → TaskIs (task_of t)
   task-is calm =
@@ -261,8 +263,8 @@ module _ (t : TrafficState) where
     where
       by : (f : Option ChannelFailure) → first_failure t.inbox ≡ f
           → TaskIs (unwrap_or (option_or (option_or (option_map (failure_task t) f)
-          (option_or (message_in t)
-          (option_or (option_map task.Cuts (first_unread t.inbox)) (option_map task.TakesReady (slice_get t.ready 0)))))
+          (option_or (message_in t) (option_or (option_map task.Cuts (first_unread t.inbox))
+          (option_or (free_in t) (option_map task.TakesReady (slice_get t.ready 0))))))
           (ran_out t)) task.Admits)
       by None none =
           task-unwrap (option_or (others none) (ran_out t))

@@ -116,14 +116,14 @@ idle_in s = option_map (λ p. ClosesIdle p.1) (option_and_then (if_kept_enough s
 
 -- What came goes before what runs out, so that a reply that is there is never too late; and a channel that failed
 -- before what came, so that what is behind an octet for which a stream is broken is read no more, however the stream
--- was cut.
+-- was cut. One that waits for a channel gets what is free before those that are ready, so that none overtakes it.
 abbrev pub came_in : TrafficState → Option Task
 came_in s =
     option_or (failure_in s) (option_or (message_in s) (option_or (option_map Cuts (first_unread s.inbox))
-    (option_map TakesReady (slice_get s.ready 0))))
+    (option_or (free_in s) (option_map TakesReady (slice_get s.ready 0)))))
 
 abbrev pub ran_out : TrafficState → Option Task
-ran_out s = option_or (due_in s) (option_or (late_in s) (option_or (free_in s) (idle_in s)))
+ran_out s = option_or (due_in s) (option_or (late_in s) (idle_in s))
 
 abbrev pub task_of : TrafficState → Task
 task_of s =

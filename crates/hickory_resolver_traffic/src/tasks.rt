@@ -297,23 +297,14 @@ impl Traffic {
     fn came_in(&self) -> Option<Task>
         ensures { result ≡ came_in self.now }
     {
-        first_of_four(
-            self.failure_in(),
-            self.message_in(),
-            self.unread_in(),
-            self.ready_in(),
-        )
+        let next = first_of_three(self.unread_in(), self.free_in(), self.ready_in());
+        first_of_three(self.failure_in(), self.message_in(), next)
     }
 
     fn ran_out(&self) -> Option<Task>
         ensures { result ≡ ran_out self.now }
     {
-        first_of_four(
-            self.due_in(),
-            self.late_in(),
-            self.free_in(),
-            self.idle_in(),
-        )
+        first_of_three(self.due_in(), self.late_in(), self.idle_in())
     }
 
     /// What is to be done where no transaction is worked on.
@@ -358,13 +349,8 @@ fn earlier(one: Option<u64>, other: Option<u64>) -> Option<u64>
     }
 }
 
-fn first_of_four(
-    first: Option<Task>,
-    second: Option<Task>,
-    third: Option<Task>,
-    fourth: Option<Task>,
-) -> Option<Task>
-    ensures { result ≡ option_or first (option_or second (option_or third fourth)) }
+fn first_of_three(first: Option<Task>, second: Option<Task>, third: Option<Task>) -> Option<Task>
+    ensures { result ≡ option_or first (option_or second third) }
 {
-    first.or(second).or(third).or(fourth)
+    first.or(second).or(third)
 }

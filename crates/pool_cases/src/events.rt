@@ -131,8 +131,8 @@ impl Case {
         Ok(())
     }
 
-    // CHANNEL, `as=` where it answers what was sent on another, `of=` where it answers not the last message, and what is
-    // wrong with it.
+    // CHANNEL, `as=` where it answers what was sent on another, `of=` where it answers not the last message, `later`
+    // where nothing is done before more happens, and what is wrong with it.
     fn open_reply(
         &mut self,
         rt: &impl Print,
@@ -170,9 +170,13 @@ impl Case {
             return Ok(());
         }
         let reply = self.reply.take();
+        let is_later = is_later(&reply);
         let done = self.finish_reply(alloc, &reply);
         drop(reply);
         done?;
+        if is_later {
+            return Ok(());
+        }
         self.act(rt, alloc)
     }
 
@@ -225,6 +229,13 @@ impl Case {
         self.pool.came(channel, &self.sent.held[..count], moment)?;
         self.sent.held.drain(..count);
         Ok(())
+    }
+}
+
+fn is_later(reply: &Option<OpenReply>) -> bool {
+    match reply {
+        Some(reply) => has_word(&reply.words, "later"),
+        None => false,
     }
 }
 
