@@ -407,11 +407,11 @@ settled-at e n t may why = by (next_deadline tr) refl (waits (never_waits_for_ev
     no_outcome (Some o) b h = absurd (true≢false h)
 
     none : outcome_of tr ≡ None
-    none = no_outcome (outcome_of tr) (is_none (askers_of n t.askers)) why.2
+    none = no_outcome (outcome_of tr) (is_none (askers_of n t.askers)) why.1
 
     waits : WaitsForSomething tr → is_some (next_deadline tr) ≡ true
-    waits (inl h) = absurd (true≢false (sym h ∙ why.3))
-    waits (inr (inl h)) = absurd (true≢false (sym h ∙ why.4))
+    waits (inl h) = absurd (true≢false (sym h ∙ why.2))
+    waits (inr (inl h)) = absurd (true≢false (sym h ∙ why.3))
     waits (inr (inr h)) = h
 
     same : (d : ℕ) (o : Option ℕ) → same_moment (Some d) o ≡ true → o ≡ Some d

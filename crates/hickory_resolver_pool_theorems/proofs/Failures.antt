@@ -8,7 +8,7 @@ use Rattle.hickory_resolver_steps.specs.Ending.{first_done}
 use Rattle.hickory_resolver_transactions.specs.Transaction.{told, outcome_of, is_idle, may_go_on, wants_round, wanted, has_late, next_deadline}
 use Rattle.hickory_resolver_transactions.specs.declared.outcome.Outcome.{Outcome}
 use Rattle.hickory_resolver_transactions.specs.declared.outcome.Outcome.TheVariants as kind
-use Rattle.hickory_resolver_traffic.specs.Doing.{fails, is_ending, is_due, is_empty, going_on, forward, round_or_place, sends_or_blocks, at_rest, same_moment, by_failure, doing, doing_for}
+use Rattle.hickory_resolver_traffic.specs.Doing.{fails, is_ending, runs_out, is_empty, going_on, forward, round_or_place, sends_or_blocks, at_rest, same_moment, by_failure, doing, doing_for}
 use Rattle.hickory_resolver_traffic.specs.Inbox.{first_failure}
 use Rattle.hickory_resolver_traffic.specs.Table.{EntryState, is_blocked}
 use Rattle.hickory_resolver_traffic.specs.Traffic.{TrafficState}
@@ -67,8 +67,8 @@ forward-on n e t = by (wants_round e.flying.flight.transaction) (is_some (wanted
 
 -- what is not ending is not at its end
 going-on : (n : ℕ) (e : EntryState) (t : TrafficState)
-    → is_end (cond (is_due e t) Expires (option_map_or Leaves (first_done e.flying) (forward n e t))) ≡ false
-going-on n e t = by (is_due e t) (first_done e.flying)
+    → is_end (cond (runs_out e t) Expires (option_map_or Leaves (first_done e.flying) (forward n e t))) ≡ false
+going-on n e t = by (runs_out e t) (first_done e.flying)
   where
     by : (due : Bool) (place : Option ℕ)
         → is_end (cond due Expires (option_map_or Leaves place (forward n e t))) ≡ false
@@ -87,9 +87,9 @@ end-going_on n e t h = by (is_ending n e.flying t) refl (is_empty e.flying.tries
   where
     by : (ending : Bool) → is_ending n e.flying t ≡ ending → (empty : Bool)
         → is_end (cond ending (cond empty Ends (Leaves 0))
-        (cond (is_due e t) Expires (option_map_or Leaves (first_done e.flying) (forward n e t)))) ≡ true
+        (cond (runs_out e t) Expires (option_map_or Leaves (first_done e.flying) (forward n e t)))) ≡ true
         → IsEnding (cond ending (cond empty Ends (Leaves 0))
-        (cond (is_due e t) Expires (option_map_or Leaves (first_done e.flying) (forward n e t)))) n e t
+        (cond (runs_out e t) Expires (option_map_or Leaves (first_done e.flying) (forward n e t)))) n e t
     by true is true g = record { ends = refl; ending = is }
     by true is false g = absurd (true≢false (sym g))
     by false is empty g = absurd (true≢false (sym g ∙ going-on n e t))

@@ -6,7 +6,7 @@ use Rattle.hickory_resolver_channels.specs.Channels.{channel_at, transaction_at,
 use Rattle.hickory_resolver_steps.specs.Ending.{first_done}
 use Rattle.hickory_resolver_tries.specs.Heads.{head_of}
 use Rattle.hickory_resolver_transactions.specs.Transaction.{wants_round, wanted, has_late, next_deadline}
-use Rattle.hickory_resolver_traffic.specs.Doing.{doing, doing_for, going_on, is_ending, is_due, is_empty, forward, round_or_place, sends_or_blocks, at_rest, same_moment, by_failure, id_of}
+use Rattle.hickory_resolver_traffic.specs.Doing.{doing, doing_for, going_on, is_ending, runs_out, is_empty, forward, round_or_place, sends_or_blocks, at_rest, same_moment, by_failure, id_of}
 use Rattle.hickory_resolver_traffic.specs.Inbox.{MessageValue, first_message, first_failure, first_unread}
 use Rattle.hickory_resolver_traffic.specs.Table.{CurrentState, EntryState, has_entry, first_due, first_blocked, is_blocked}
 use Rattle.hickory_resolver_traffic.specs.Tasks.{task_of, outgoing_task, if_by, if_kept_enough, came_in, ran_out, due_in, late_in, free_in, idle_in, free_one, message_in, failure_in, message_task, failure_task, failed_task, hears_or_doubts, passes_or_doubts, is_response, fails_or_drops, expires_or_undates, refused_one, refuses_or_strays, frees_or_unblocks, kept_until}
@@ -58,9 +58,9 @@ new-forward n e t =
 new-going : (n : ℕ) (e : EntryState) (t : TrafficState) → IsNew e (going_on n e t)
 new-going n e t =
     new-if e (is_ending n e.flying t) (cond (is_empty e.flying.tries) Ends (Leaves 0))
-    (cond (is_due e t) Expires (option_map_or Leaves (first_done e.flying) (forward n e t)))
+    (cond (runs_out e t) Expires (option_map_or Leaves (first_done e.flying) (forward n e t)))
     (new-if e (is_empty e.flying.tries) Ends (Leaves 0) tt tt)
-    (new-if e (is_due e t) Expires (option_map_or Leaves (first_done e.flying) (forward n e t)) tt
+    (new-if e (runs_out e t) Expires (option_map_or Leaves (first_done e.flying) (forward n e t)) tt
     (new-map e Leaves (first_done e.flying) (forward n e t) (λ place. tt) (new-forward n e t)))
 
 pub new-date : (c : CurrentState) (t : TrafficState) → IsNew c.entry (doing c t)

@@ -23,9 +23,9 @@ use Rattle.hickory_resolver_transactions.specs.Transaction.{TransactionState, wa
 use Rattle.hickory_resolver_transactions.specs.Transaction as transaction
 use Rattle.hickory_resolver_transactions.specs.declared.transaction.Wanted.{Wanted}
 use Rattle.hickory_resolver_traffic.specs.Acting.{acted_with, acted_to, value_with, nothing_acted, parts_of, step_of}
-use Rattle.hickory_resolver_traffic.specs.Doing.{Scene, IsDone, doing, doing_for, going_on, is_ending, is_due, is_empty, forward, round_or_place, sends_or_blocks, at_rest, same_moment, by_failure, leave_at, leaving_at, closed_at, freed_if, leaves, expires, act_on, before_act, with_acted, moment_of, draws, gives_up, blocks, sends, with_outgoing, outgoing_of, dates, with_round_parts, in_order_of, BeginsRoundIn, BeginsWith, round_of, hears, hears_first, heard_of_first, after_first, doubts, stalls, stalls_on, fails, fails_on, after_failed, quits, quits_at, after_quit, place_on, with_to_do, frees, then_do, changing, is_stream}
+use Rattle.hickory_resolver_traffic.specs.Doing.{Scene, IsDone, doing, doing_for, going_on, is_ending, is_due, runs_out, is_empty, forward, round_or_place, sends_or_blocks, at_rest, same_moment, by_failure, leave_at, leaving_at, closed_at, freed_if, leaves, expires, act_on, before_act, with_acted, moment_of, draws, gives_up, blocks, sends, with_outgoing, outgoing_of, dates, with_round_parts, in_order_of, BeginsRoundIn, BeginsWith, round_of, hears, hears_first, heard_of_first, after_first, doubts, stalls, stalls_on, fails, fails_on, after_failed, quits, quits_at, after_quit, place_on, with_to_do, frees, then_do, changing, is_stream}
 use Rattle.hickory_resolver_traffic.specs.Groups.{GroupListState, list_in, list_at}
-use Rattle.hickory_resolver_traffic.specs.Inbox.{first_failure}
+use Rattle.hickory_resolver_traffic.specs.Inbox.{first_failure, is_read}
 use Rattle.hickory_resolver_traffic.specs.Table.{CurrentState, EntryState, is_blocked, without_blocked}
 use Rattle.hickory_resolver_traffic.specs.Tasks.{opened_outgoing, after_task}
 use Rattle.hickory_resolver_traffic.specs.Traffic.{TrafficState, OutgoingValue}
@@ -71,22 +71,21 @@ WhyGo e n t (Dates due) =
     (same_moment due e.due ≡ false) × (due ≡ next_deadline e.flying.flight.transaction)
 WhyGo e n t Ends = Unit {0}
 WhyGo e n t Rests =
-    (same_moment (next_deadline e.flying.flight.transaction) e.due ≡ true) × (is_due e t ≡ false)
-    × (is_ending n e.flying t ≡ false) × (wants_round e.flying.flight.transaction ≡ false)
-    × (is_some (wanted e.flying.flight.transaction) ≡ false)
+    (same_moment (next_deadline e.flying.flight.transaction) e.due ≡ true) × (is_ending n e.flying t ≡ false)
+    × (wants_round e.flying.flight.transaction ≡ false) × (is_some (wanted e.flying.flight.transaction) ≡ false)
 WhyGo e n t other = ⊥
 
 module _ (e : EntryState) (n : ℕ) (t : TrafficState) where
   abbrev tr : TransactionState
   tr = e.flying.flight.transaction
 
-  why-rest : is_due e t ≡ false → is_ending n e.flying t ≡ false → wants_round tr ≡ false → is_some (wanted tr) ≡ false
+  why-rest : is_ending n e.flying t ≡ false → wants_round tr ≡ false → is_some (wanted tr) ≡ false
       → WhyGo e n t (at_rest e)
-  why-rest early lives no_round no_want = by (same_moment (next_deadline tr) e.due) refl
+  why-rest lives no_round no_want = by (same_moment (next_deadline tr) e.due) refl
     where
       by : (b : Bool) → same_moment (next_deadline tr) e.due ≡ b
           → WhyGo e n t (cond b Rests (Dates (next_deadline tr)))
-      by true is = (is, early, lives, no_round, no_want)
+      by true is = (is, lives, no_round, no_want)
       by false is = (is, refl)
 
   why-sends : is_some (wanted tr) ≡ true → WhyGo e n t (sends_or_blocks n tr t)
@@ -105,8 +104,8 @@ module _ (e : EntryState) (n : ℕ) (t : TrafficState) where
       place true = wants
       place false = late (has_late tr) refl
 
-  why-forward : is_due e t ≡ false → is_ending n e.flying t ≡ false → WhyGo e n t (forward n e t)
-  why-forward early lives = by (wants_round tr) refl
+  why-forward : is_ending n e.flying t ≡ false → WhyGo e n t (forward n e t)
+  why-forward lives = by (wants_round tr) refl
     where
       place : wants_round tr ≡ true → (o : Option ℕ) → e.place ≡ o → WhyGo e n t (option_map_or BeginsRound o Draws)
       place wants None is = is
@@ -115,7 +114,7 @@ module _ (e : EntryState) (n : ℕ) (t : TrafficState) where
       send : wants_round tr ≡ false → (b : Bool) → is_some (wanted tr) ≡ b
           → WhyGo e n t (cond b (sends_or_blocks n tr t) (at_rest e))
       send no_round true is = why-sends is
-      send no_round false is = why-rest early lives no_round is
+      send no_round false is = why-rest lives no_round is
 
       by : (b : Bool) → wants_round tr ≡ b
           → WhyGo e n t (cond b (round_or_place e) (cond (is_some (wanted tr)) (sends_or_blocks n tr t) (at_rest e)))
@@ -141,22 +140,26 @@ module _ (e : EntryState) (n : ℕ) (t : TrafficState) where
       all_left [] is = tt
       all_left (x ∷ xs) is = ap (λ (ts : List SentTry). is_some (slice_get ts 0)) is
 
-      done : is_ending n e.flying t ≡ false → is_due e t ≡ false → (o : Option ℕ) → first_done e.flying ≡ o
+      done : is_ending n e.flying t ≡ false → (o : Option ℕ) → first_done e.flying ≡ o
           → WhyGo e n t (option_map_or Leaves o (forward n e t))
-      done lives early None is = why-forward early lives
-      done lives early (Some place) is =
+      done lives None is = why-forward lives
+      done lives (Some place) is =
           found-there e.flying.tries place (position_or_len (is_done tr) e.flying.tries)
           (ltb (position_or_len (is_done tr) e.flying.tries) (length e.flying.tries)) refl is
 
-      due : is_ending n e.flying t ≡ false → (b : Bool) → is_due e t ≡ b
+      past : (read late : Bool) → (read && late) ≡ true → late ≡ true
+      past true late h = h
+      past false late h = absurd (true≢false (sym h))
+
+      due : is_ending n e.flying t ≡ false → (b : Bool) → runs_out e t ≡ b
           → WhyGo e n t (cond b Expires (option_map_or Leaves (first_done e.flying) (forward n e t)))
-      due lives true is = is
-      due lives false is = done lives is (first_done e.flying) refl
+      due lives true is = past (is_read t.inbox) (is_due e t) is
+      due lives false is = done lives (first_done e.flying) refl
 
       by : (b : Bool) → is_ending n e.flying t ≡ b → WhyGo e n t (cond b (cond (is_empty e.flying.tries) Ends (Leaves 0))
-          (cond (is_due e t) Expires (option_map_or Leaves (first_done e.flying) (forward n e t))))
+          (cond (runs_out e t) Expires (option_map_or Leaves (first_done e.flying) (forward n e t))))
       by true lives = all_left e.flying.tries refl
-      by false lives = due lives (is_due e t) refl
+      by false lives = due lives (runs_out e t) refl
 
 -- ---- how much is left to be done with it
 

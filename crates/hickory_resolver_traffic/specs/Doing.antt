@@ -1,5 +1,5 @@
 -- What is done with the transaction that is worked on, one thing at a time.
-use Rattle.std.specs.Prelude.{◌≡◌, ℕ, ◌+◌, ◌-◌, ◌^◌, Bool, true, false, ◌||◌, ◌==◌, List, [], ◌∷◌, min, nat_le, position, Option, None, Some, if◌then◌else◌}
+use Rattle.std.specs.Prelude.{◌≡◌, ℕ, ◌+◌, ◌-◌, ◌^◌, Bool, true, false, ◌&&◌, ◌||◌, ◌==◌, List, [], ◌∷◌, min, nat_le, position, Option, None, Some, if◌then◌else◌}
 use Rattle.std.specs.Option.{is_some, is_none, option_map, option_map_or, option_and_then}
 use Rattle.hickory_resolver_askers.specs.Askers.{askers_of}
 use Rattle.hickory_resolver_channels.specs.Channels.{ChannelsState, channel_at, has_place}
@@ -20,7 +20,7 @@ use Rattle.hickory_resolver_tries.specs.Heads.{head_of}
 use Rattle.hickory_resolver_transactions.specs.Transaction.{TransactionState, outcome_of, wants_round, wanted, has_late, next_deadline, places_left, with_round, blocked, freed, without_oldest}
 use Rattle.hickory_resolver_traffic.specs.Acting.{Acted, ActedValue, acted_on, value_on, later, with_flight}
 use Rattle.hickory_resolver_traffic.specs.Groups.{GroupListState, list_at, changed_list}
-use Rattle.hickory_resolver_traffic.specs.Inbox.{InboxState, MessageValue, first_message, without_message, first_failure, with_failure, without_failure}
+use Rattle.hickory_resolver_traffic.specs.Inbox.{InboxState, MessageValue, first_message, without_message, first_failure, with_failure, without_failure, is_read}
 use Rattle.hickory_resolver_traffic.specs.Table.{EntryState, CurrentState, is_blocked, with_blocked, without_blocked, redated}
 use Rattle.hickory_resolver_traffic.specs.Traffic.{TrafficState, OutgoingValue}
 use Rattle.hickory_resolver_traffic.specs.declared.acting.ServerAct.{ServerAct}
@@ -76,11 +76,15 @@ forward n e s =
 abbrev pub is_due : EntryState → TrafficState → Bool
 is_due e s = option_map_or (λ due. nat_le due s.clock) (next_deadline e.flying.flight.transaction) false
 
--- what is due ends first, and then a try that nothing waits for leaves its channel; of one that ends, all leave
+-- what came is read first, so that a reply that is there is never too late
+abbrev pub runs_out : EntryState → TrafficState → Bool
+runs_out e s = is_read s.inbox && is_due e s
+
+-- what runs out ends first, and then a try that nothing waits for leaves its channel; of one that ends, all leave
 abbrev pub going_on : ℕ → EntryState → TrafficState → Doing
 going_on n e s =
     if is_ending n e.flying s then (if is_empty e.flying.tries then Ends else Leaves 0)
-    else (if is_due e s then Expires else option_map_or Leaves (first_done e.flying) (forward n e s))
+    else (if runs_out e s then Expires else option_map_or Leaves (first_done e.flying) (forward n e s))
 
 abbrev pub by_failure : Failure → Doing
 by_failure Local = Stalls

@@ -1,8 +1,8 @@
 -- What came and was not read yet: messages, and channels that failed, each in the order in which they came; the octets
 -- of each stream behind the last message that was cut off, and the streams of which more came since.
-use Rattle.std.specs.Prelude.{ℕ, List, [], ◌∷◌, ◌++◌, drop, slice_get, Option}
+use Rattle.std.specs.Prelude.{ℕ, Bool, ◌&&◌, List, [], ◌∷◌, ◌++◌, drop, slice_get, Option}
 use Rattle.std.specs.Ordering.{nat_cmp}
-use Rattle.std.specs.Option.{option_map_or, option_and_then}
+use Rattle.std.specs.Option.{is_none, option_map_or, option_and_then}
 use Rattle.std.specs.Map.{lookup, remove_entry, set_value}
 use Rattle.std.specs.BTreeMap.{insert_entry, is_at}
 use Rattle.hickory_resolver_tries.specs.Stream.{first_of}
@@ -69,6 +69,10 @@ first_unread s = slice_get s.unread 0
 
 abbrev pub without_unread : InboxState → InboxState
 without_unread s = record s { unread = drop 1 s.unread }
+
+-- nothing that came is still to be read
+abbrev pub is_read : InboxState → Bool
+is_read s = is_none (first_failure s) && is_none (first_message s) && is_none (first_unread s)
 
 abbrev pub without_stream : ℕ → InboxState → InboxState
 without_stream channel s = record s { streams = remove_entry (is_at (nat_cmp channel)) s.streams }

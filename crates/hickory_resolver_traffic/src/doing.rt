@@ -4,7 +4,7 @@ ghost use Rattle.std.specs.Option.{option_map_or};
 ghost use Rattle.hickory_resolver_channels.specs.Channels.{has_place};
 ghost use Rattle.hickory_resolver_steps.specs.Ending.{is_done, first_done};
 ghost use Rattle.hickory_resolver_traffic.specs.Inbox.{first_failure};
-ghost use Rattle.hickory_resolver_traffic.specs.Doing.{same_moment, is_empty, is_ending, at_rest, sends_or_blocks, round_or_place, forward, is_due, going_on, by_failure, doing_for, doing};
+ghost use Rattle.hickory_resolver_traffic.specs.Doing.{same_moment, is_empty, is_ending, at_rest, sends_or_blocks, round_or_place, forward, is_due, runs_out, going_on, by_failure, doing_for, doing};
 
 use crate::entry::{Current, Entry, ToDo};
 use crate::inbox::Failure;
@@ -171,6 +171,13 @@ impl Traffic {
         }
     }
 
+    // What came is read first.
+    fn runs_out(&self, entry: &Entry) -> bool
+        ensures { result ≡ runs_out entry.now self.now }
+    {
+        self.inbox.is_read() && self.is_due(entry)
+    }
+
     fn going_on(&self, number: u64, entry: &Entry) -> Doing
         ensures { result ≡ going_on number entry.now self.now }
     {
@@ -181,7 +188,7 @@ impl Traffic {
                 Doing::Leaves(0)
             };
         }
-        if self.is_due(entry) {
+        if self.runs_out(entry) {
             return Doing::Expires;
         }
         match first_done(&entry.parts.flying) {

@@ -5,7 +5,7 @@ ghost use Rattle.std.specs.Map.{remove_entry, set_value};
 ghost use Rattle.std.specs.BTreeMap.{is_at};
 ghost use Rattle.std.specs.Option.{option_map};
 ghost use Rattle.hickory_resolver_tries.specs.Stream.{first_of};
-ghost use Rattle.hickory_resolver_traffic.specs.Inbox.{empty_inbox, message_on, with_message, first_message, without_message, with_failure, first_failure, without_failure, octets_in, with_octets, with_piece, first_unread, without_unread, without_stream, first_on, cut_off, cut_on};
+ghost use Rattle.hickory_resolver_traffic.specs.Inbox.{empty_inbox, message_on, with_message, first_message, without_message, with_failure, first_failure, without_failure, octets_in, with_octets, with_piece, first_unread, without_unread, is_read, without_stream, first_on, cut_off, cut_on};
 
 use std::alloc::{AllocError, Global};
 use std::collections::{BTreeMap, VecDeque};
@@ -178,6 +178,15 @@ impl Inbox {
         ensures { result ≡ first_unread self.now }
     {
         self.unread.front().copied()
+    }
+
+    /// Whether nothing that came is still to be read.
+    pub fn is_read(&self) -> bool
+        ensures { result ≡ is_read self.now }
+    {
+        self.first_failure().is_none()
+            && self.first_message().is_none()
+            && self.first_unread().is_none()
     }
 
     /// A stream is closed.
