@@ -221,7 +221,7 @@ module _ (limits : TrafficLimits) where
     where
       by : (wants : Bool) → Tracks (cond wants
           (record {
-            traffic = record x.traffic { freed = x.traffic.freed - 1 };
+            traffic = x.traffic;
             current = then_do GoOn (changing (changed freed) x.current);
           })
           (record {

@@ -1,5 +1,5 @@
 -- What each event of a transaction keeps, all that is done with it keeps: time passes for it up to moments that were told.
-use Rattle.std.proofs.Common.{◌≡◌, ◌≤◌, ◌-◌, ℕ, Bool, true, false, cond, List, [], sym, subst}
+use Rattle.std.proofs.Common.{◌≡◌, ◌≤◌, ℕ, Bool, true, false, cond, List, [], sym, subst}
 use Rattle.std.specs.Prelude.{Option, None, Some}
 use Rattle.std.specs.Option.{is_some, option_map_or}
 use Rattle.hickory_resolver_channels.specs.Channels.{number_given}
@@ -163,7 +163,7 @@ module _ (P : TransactionState → Type 0) (latest : ℕ)
     where
       by : (wants : Bool) → P (cond {A = Scene} wants
           (record {
-            traffic = record x.traffic { freed = x.traffic.freed - 1 };
+            traffic = x.traffic;
             current = then_do todo.GoOn (changing (changed freed) x.current);
           })
           (record {

@@ -1,9 +1,7 @@
 -- What is done with a transaction before it goes on.
 use Rattle.std.proofs.Common.{◌≡◌, ◌≤◌, ◌<◌, ◌+◌, ◌-◌, ◌^◌, min, suc, zero, ℕ, Bool, true, false, cond, List, [], ◌∷◌, length, drop, refl, ap, sym, subst, ◌∙◌, true≢false, arith, inl, inr, ◌⊎◌, ltb, ltb-true, leb, leb-true}
 use Rattle.std.specs.Prelude.{Option, None, Some, slice_get, position}
-use Rattle.std.specs.Ordering.{nat_cmp, is_eq}
-use Rattle.std.specs.BTreeMap.{is_at}
-use Rattle.std.specs.List.{list_any, position_or_len}
+use Rattle.std.specs.List.{position_or_len}
 use Rattle.std.specs.Option.{is_some, option_map, option_map_or, option_and_then}
 use Rattle.std.proofs.lemmas.List.Edits.{length-remove}
 use Rattle.std.proofs.lemmas.Option.{slice_get_within}
@@ -17,7 +15,7 @@ use Rattle.hickory_resolver_traffic.specs.Acting.{acted_with}
 use Rattle.hickory_resolver_traffic.specs.Doing.{Scene, IsDone, after_first, heard_of, hears_octets, hears, broken, doubts_message, doubts_first, doubts, fails_on, after_failed, fails, act_on, before_act, with_acted, moment_of, stalls_on, stalls, leaving_at, leave_at, closed_at, freed_if, leaves, quits_at, after_quit, quits, place_on, is_on, with_to_do, expires, frees, then_do, changing, is_stream, is_empty, is_due}
 use Rattle.hickory_resolver_traffic.specs.Groups.{GroupListState, list_in}
 use Rattle.hickory_resolver_traffic.specs.Inbox.{InboxState, MessageValue, first_message, without_message, first_failure, without_failure, with_failure}
-use Rattle.hickory_resolver_traffic.specs.Table.{is_blocked, without_blocked}
+use Rattle.hickory_resolver_traffic.specs.Table.{without_blocked}
 use Rattle.hickory_resolver_traffic.specs.Traffic.{TrafficState}
 use Rattle.hickory_resolver_traffic.specs.declared.acting.ServerAct.TheVariants.{Fail, Expire}
 use Rattle.hickory_resolver_traffic.specs.declared.doing.Doing.{Doing}
@@ -26,9 +24,7 @@ use Rattle.hickory_resolver_traffic.specs.declared.entry.ToDo.TheVariants as tod
 use Rattle.hickory_resolver_traffic.specs.declared.inbox.ChannelFailure.{ChannelFailure}
 use Rattle.hickory_resolver_pool_theorems.proofs.Budgets.{budget, budget-expired, budget-freed}
 use Rattle.hickory_resolver_pool_theorems.proofs.Frames.{kept-done}
-use Rattle.hickory_resolver_pool_theorems.proofs.Keys.{nat-self}
-use Rattle.hickory_resolver_pool_theorems.proofs.KeySets.{or-left}
-use Rattle.hickory_resolver_pool_theorems.proofs.Moves.{cost_of, wants_in}
+use Rattle.hickory_resolver_pool_theorems.proofs.Moves.{cost_of, wants_in, place_in}
 use Rattle.hickory_resolver_pool_theorems.proofs.PutAway.{IsFit}
 use Rattle.hickory_resolver_pool_theorems.proofs.Weights.{octets_of, came_of, one-less, length-first}
 use Rattle.hickory_resolver_pool_theorems.proofs.Whole.{streams-done}
@@ -166,7 +162,7 @@ messages-frees x = by (is_some (wanted (changed freed x.current.entry.flying.fli
   where
     by : (wants : Bool) → messages_in (cond {A = Scene} wants
         (record {
-          traffic = record x.traffic { freed = x.traffic.freed - 1 };
+          traffic = x.traffic;
           current = then_do todo.GoOn (changing (changed freed) x.current);
         })
         (record {
@@ -355,28 +351,21 @@ pub record HasFreed (x y : Scene) : Type 0 where
   pub to_do : y.current.to_do ≡ todo.GoOn
   pub cost : cost_of y.current.entry ≤ cost_of x.current.entry
   pub channels : length y.traffic.shared.channels.channels ≡ length x.traffic.shared.channels.channels
+  pub place : place_in y ≡ place_in x
   pub ready : y.traffic.ready ≡ x.traffic.ready
-  pub waits : y.traffic.freed + length y.traffic.table.blocked < x.traffic.freed + length x.traffic.table.blocked
-  pub why : (is_blocked y.current.number y.traffic.table ≡ true) ⊎ (wants_in y ≡ false)
+  pub why : (wants_in y ≡ true) ⊎ ((wants_in y ≡ false)
+      × (y.traffic.freed + length y.traffic.table.blocked < x.traffic.freed + length x.traffic.table.blocked))
 
-pub frees-is : (x : Scene) → IsFit x → slice_get x.traffic.table.blocked 0 ≡ Some x.current.number → 0 < x.traffic.freed
-    → HasFreed x (frees x)
-frees-is x fit first some = by (is_some (wanted (changed freed x.current.entry.flying.flight).transaction)) refl
+pub frees-is : (x : Scene) → IsFit x → slice_get x.traffic.table.blocked 0 ≡ Some x.current.number → HasFreed x (frees x)
+frees-is x fit first = by (is_some (wanted (changed freed x.current.entry.flying.flight).transaction)) refl
   where
     less : budget true (freed x.current.entry.flying.flight.transaction) ≤ budget true x.current.entry.flying.flight.transaction
     less = budget-freed x.current.entry.flying.flight.transaction fit.places
 
-    in-first : (ks : List ℕ) → slice_get ks 0 ≡ Some x.current.number → list_any (is_at (nat_cmp x.current.number)) ks ≡ true
-    in-first [] h = absurd cc
-    in-first (k ∷ ks) h =
-        let same : k ≡ x.current.number = cc in
-        or-left (is_at (nat_cmp x.current.number) k) (list_any (is_at (nat_cmp x.current.number)) ks)
-        (ap (λ (n : ℕ). is_at (nat_cmp x.current.number) n) same ∙ ap is_eq (nat-self x.current.number))
-
     by : (wants : Bool) → is_some (wanted (changed freed x.current.entry.flying.flight).transaction) ≡ wants
         → HasFreed x (cond {A = Scene} wants
         (record {
-          traffic = record x.traffic { freed = x.traffic.freed - 1 };
+          traffic = x.traffic;
           current = then_do todo.GoOn (changing (changed freed) x.current);
         })
         (record {
@@ -390,9 +379,9 @@ frees-is x fit first some = by (is_some (wanted (changed freed x.current.entry.f
           to_do = refl;
           cost = omega (arith, fewer);
           channels = refl;
+          place = refl;
           ready = refl;
-          waits = omega (arith, some);
-          why = inl (in-first x.traffic.table.blocked first);
+          why = inl is;
         }
     by false is =
         let fewer = less in
@@ -402,7 +391,7 @@ frees-is x fit first some = by (is_some (wanted (changed freed x.current.entry.f
           to_do = refl;
           cost = omega (arith, fewer);
           channels = refl;
+          place = refl;
           ready = refl;
-          waits = omega (arith, shorter);
-          why = inr is;
+          why = inr (is, omega (arith, shorter));
         }

@@ -19,7 +19,7 @@ use Rattle.hickory_resolver_pool.specs.Pool.{PoolState, scene_of, is_end, is_put
 use Rattle.hickory_resolver_pool_theorems.proofs.Lex.{Numbers, Less}
 use Rattle.hickory_resolver_pool_theorems.proofs.Moves.{cost_of}
 use Rattle.hickory_resolver_pool_theorems.proofs.PutAway.{WhyGo, why-going}
-use Rattle.hickory_resolver_pool_theorems.proofs.Tracks.{tries_in, view_of, Start, IsHearing, Lower, of_cost, of_channels, of_due, of_waits, Track, has_read, has_settled, is_hearing, is_failing, is_quitting, has_quit, is_expiring, is_freeing, is_refused, goes}
+use Rattle.hickory_resolver_pool_theorems.proofs.Tracks.{tries_in, view_of, Start, IsHearing, Lower, of_cost, of_channels, of_due, of_waits, of_place, Track, has_read, has_settled, is_hearing, is_failing, is_quitting, has_quit, is_expiring, is_freeing, is_refused, goes}
 use Rattle.hickory_resolver_pool_theorems.proofs.Weights.{weigh, weigh-inserted, came_of}
 
 -- ---- how much is left of a pool that works on none
@@ -142,6 +142,7 @@ module _ (b : Start) (s : PoolState) (c : CurrentState) where
       by (of_channels le less) = omega (arith, le)
       by (of_due le one less) = omega (arith, le)
       by (of_waits le one two less why) = omega (arith, le)
+      by (of_place le there wants) = omega (arith, le)
 
   -- it waits, or goes on later
   abbrev pub Put : Doing → Type 0
@@ -203,6 +204,7 @@ module _ (b : Start) (s : PoolState) (c : CurrentState) where
           let more = cost in fell_due came failed none (omega (arith, le, more)) one less
       by (of_waits le one two less w) =
           let more = cost in fell_waits came failed none (omega (arith, le, more)) one two less
+      by (of_place le there wants) = absurd (true≢false (sym wants ∙ why.3))
   put-rests came failed none low doings.PutsBack h why = absurd why
   put-rests came failed none low doings.Hears h why = absurd why
   put-rests came failed none low doings.Doubts h why = absurd why

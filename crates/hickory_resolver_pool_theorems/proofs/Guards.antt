@@ -1,5 +1,5 @@
 -- Why a thing is done.
-use Rattle.std.proofs.Common.{◌≡◌, ◌≤◌, ℕ, Bool, true, false, cond, refl, ap, sym, subst, ◌∙◌, leb, leb-true, ltb}
+use Rattle.std.proofs.Common.{◌≡◌, ◌≤◌, ℕ, Bool, true, false, cond, ◌&&◌, refl, ap, sym, subst, ◌∙◌, leb, leb-true, ltb}
 use Rattle.std.specs.Prelude.{Option, None, Some, IfSome, unwrap_or, slice_get}
 use Rattle.std.specs.Option.{is_some, option_map, option_map_or, option_or, option_and_then}
 use Rattle.hickory_resolver_channels.specs.Channels.{channel_at, transaction_at, first_try, first_idle, has_place}
@@ -198,7 +198,7 @@ module _ (t : TrafficState) where
       by false h = h
 
   why-free : (n : ℕ) → free_one t ≡ Some n → Why t (frees_or_unblocks t.table n)
-  why-free n is = has (first (ltb 0 t.freed) is) (has_entry n t.table) refl
+  why-free n is = has (first (ltb 0 t.freed && has_place t.shared.channels) is) (has_entry n t.table) refl
     where
       first : (b : Bool) → cond b (first_blocked t.table) None ≡ Some n → first_blocked t.table ≡ Some n
       first true e = e

@@ -232,7 +232,7 @@ listed-frees x = by (is_some (wanted (changed freed x.current.entry.flying.fligh
   where
     by : (wants : Bool) → IsListed x (cond {A = Scene} wants
         (record {
-          traffic = record x.traffic { freed = x.traffic.freed - 1 };
+          traffic = x.traffic;
           current = then_do todo.GoOn (changing (changed freed) x.current);
         })
         (record {

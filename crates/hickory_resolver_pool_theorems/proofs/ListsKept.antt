@@ -239,7 +239,7 @@ groups-frees x = by (is_some (wanted (changed freed x.current.entry.flying.fligh
   where
     by : (wants : Bool) → (cond {A = Scene} wants
         (record {
-          traffic = record x.traffic { freed = x.traffic.freed - 1 };
+          traffic = x.traffic;
           current = then_do todo.GoOn (changing (changed freed) x.current);
         })
         (record {

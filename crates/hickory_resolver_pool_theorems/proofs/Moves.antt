@@ -5,7 +5,7 @@ use Rattle.std.specs.List.{list_any}
 use Rattle.std.specs.Option.{is_some, is_none, option_map_or, option_and_then}
 use Rattle.std.proofs.lemmas.List.Edits.{length-remove}
 use Rattle.std.proofs.lemmas.Option.{slice_get_within}
-use Rattle.hickory_resolver_channels.specs.Channels.{number_given}
+use Rattle.hickory_resolver_channels.specs.Channels.{number_given, has_place}
 use Rattle.hickory_resolver_channels.specs.Draws.{try_drawn}
 use Rattle.hickory_resolver_channels.specs.declared.channel.ChannelKind.{ChannelKind}
 use Rattle.hickory_resolver_steps.specs.Ending.{try_at_place}
@@ -19,7 +19,7 @@ use Rattle.hickory_resolver_transactions.specs.declared.transaction.Wanted.{Want
 use Rattle.hickory_resolver_traffic.specs.Acting.{acted_with, acted_to, value_with, nothing_acted, parts_of, step_of}
 use Rattle.hickory_resolver_traffic.specs.Doing.{Scene, IsDone, is_due, is_empty, leaving_at, closed_at, freed_if, leaves, expires, before_act, with_acted, moment_of, draws, gives_up, blocks, sends, with_outgoing, dates, with_round_parts, BeginsRoundIn, BeginsWith, round_of, with_to_do}
 use Rattle.hickory_resolver_traffic.specs.Groups.{GroupListState, list_in, list_at}
-use Rattle.hickory_resolver_traffic.specs.Table.{EntryState, is_blocked}
+use Rattle.hickory_resolver_traffic.specs.Table.{EntryState}
 use Rattle.hickory_resolver_traffic.specs.declared.acting.ServerAct.TheVariants.{Expire, Send}
 use Rattle.hickory_resolver_traffic.specs.declared.doing.Doing.{Doing}
 use Rattle.hickory_resolver_traffic.specs.declared.doing.Doing.TheVariants.{Hears, Doubts, Stalls, Fails, Quits, PutsBack, Expires, Frees, Refused, Leaves, Ends, Draws, BeginsRound, GivesUp, Blocks, Sends, Dates, Rests}
@@ -35,19 +35,24 @@ cost_of e = budget true e.flying.flight.transaction + 4 * length e.flying.tries 
 abbrev pub wants_in : Scene → Bool
 wants_in x = is_some (wanted x.current.entry.flying.flight.transaction)
 
+-- whether there may be a channel more
+abbrev pub place_in : Scene → Bool
+place_in x = has_place x.traffic.shared.channels
+
 -- what waits for channels, and the channels, stay
 pub record IsLike (x y : Scene) : Type 0 where
   pub cost : cost_of y.current.entry ≤ cost_of x.current.entry
   pub channels : length y.traffic.shared.channels.channels ≡ length x.traffic.shared.channels.channels
+  pub place : place_in y ≡ place_in x
   pub freed : y.traffic.freed ≡ x.traffic.freed
   pub blocked : y.traffic.table.blocked ≡ x.traffic.table.blocked
-  pub wants : (wants_in x ≡ true) ⊎ (wants_in y ≡ wants_in x)
+  pub wants : ((wants_in x ≡ true) × (place_in x ≡ false)) ⊎ (wants_in y ≡ wants_in x)
 
 -- it is noted that it waits for a channel
 pub record IsNoting (x y : Scene) : Type 0 where
   pub cost : cost_of y.current.entry ≤ cost_of x.current.entry
   pub channels : length y.traffic.shared.channels.channels ≡ length x.traffic.shared.channels.channels
-  pub none : is_blocked x.current.number x.traffic.table ≡ false
+  pub full : place_in x ≡ false
   pub wants : wants_in x ≡ true
 
 pub data Change (x y : Scene) : Type 0 where
@@ -127,6 +132,7 @@ module _ (x : Scene) (fit : IsFit x) (going : x.current.to_do ≡ todo.GoOn) whe
     change = stays (record {
       cost = omega arith;
       channels = refl;
+      place = refl;
       freed = refl;
       blocked = refl;
       wants = inr refl;
@@ -158,13 +164,13 @@ module _ (x : Scene) (fit : IsFit x) (going : x.current.to_do ≡ todo.GoOn) whe
       let less = budget-given_up true own late in
       record { inbox = refl; go = going; ready = refl; clock = refl; change = falls (omega (arith, less)) }
 
-  moves-blocks : is_blocked x.current.number x.traffic.table ≡ false → wants_in x ≡ true → Moves x (blocks x)
-  moves-blocks none wants = record {
+  moves-blocks : place_in x ≡ false → wants_in x ≡ true → Moves x (blocks x)
+  moves-blocks full wants = record {
     inbox = refl;
     go = going;
     ready = refl;
     clock = refl;
-    change = notes (record { cost = omega arith; channels = refl; none = none; wants = wants });
+    change = notes (record { cost = omega arith; channels = refl; full = full; wants = wants });
   }
 
   moves-dates : (due : Option ℕ) → Moves x (dates due x)
@@ -176,6 +182,7 @@ module _ (x : Scene) (fit : IsFit x) (going : x.current.to_do ≡ todo.GoOn) whe
     change = stays (record {
       cost = omega arith;
       channels = refl;
+      place = refl;
       freed = refl;
       blocked = refl;
       wants = inr refl;
@@ -208,9 +215,16 @@ module _ (x : Scene) (fit : IsFit x) (going : x.current.to_do ≡ todo.GoOn) whe
           ap (λ (f : FlyingState). budget true f.flight.transaction) flown in
           record { inbox = refl; go = going; ready = refl; clock = refl; change = falls (omega (arith, less, tries, budgets)) }
 
-      moves-number : (kind : ChannelKind) (place : ℕ) (found : Option ℕ)
+      full-of : number_given x.traffic.shared.channels ≡ None → place_in x ≡ false
+      full-of none = by (place_in x) refl none
+        where
+          by : (b : Bool) → place_in x ≡ b → cond b (Some x.traffic.shared.channels.next) None ≡ None → place_in x ≡ false
+          by true is h = absurd cc
+          by false is h = is
+
+      moves-number : (kind : ChannelKind) (place : ℕ) (found : Option ℕ) → number_given x.traffic.shared.channels ≡ found
           → Moves x (sent_scene (sent_on step kind place p found) (option_and_then (out_on step kind place p true) found))
-      moves-number kind place None =
+      moves-number kind place None is =
           let less = budget-unsent true own fit.places fit.bounded step.until wants in
           record {
             inbox = refl;
@@ -220,17 +234,18 @@ module _ (x : Scene) (fit : IsFit x) (going : x.current.to_do ≡ todo.GoOn) whe
             change = stays (record {
               cost = omega (arith, less);
               channels = refl;
+              place = refl;
               freed = refl;
               blocked = refl;
-              wants = inl wants;
+              wants = inl (wants, full-of is);
             });
           }
-      moves-number kind place (Some channel) =
+      moves-number kind place (Some channel) is =
           moves-made channel (sent_on_new step kind place channel p) (out_on step kind place p true channel) refl
 
       moves-stream : (kind : ChannelKind) (place : ℕ) (found : Option ℕ)
           → Moves x (sent_scene (sent_to step kind place p found) (out_to step kind place p found))
-      moves-stream kind place None = moves-number kind place (number_given x.traffic.shared.channels)
+      moves-stream kind place None = moves-number kind place (number_given x.traffic.shared.channels) refl
       moves-stream kind place (Some channel) =
           moves-made channel (sent_on_open step channel p) (out_on step kind place p false channel) refl
 
@@ -266,7 +281,7 @@ module _ (x : Scene) (fit : IsFit x) (going : x.current.to_do ≡ todo.GoOn) whe
   moves-done Draws y why e p is = moves-by y (draws x) is moves-draws
   moves-done (BeginsRound place) y why e p is = moves-begins place y is why
   moves-done GivesUp y why e p is = moves-by y (gives_up x) is (moves-gives_up why)
-  moves-done Blocks y why e p is = moves-by y (blocks x) is (moves-blocks why.0 why.1)
+  moves-done Blocks y why e p is = moves-by y (blocks x) is (moves-blocks why.0 why.2)
   moves-done Sends y why e p is = moves-by y (sends x) is (moves-sends why)
   moves-done (Dates due) y why e p is = moves-by y (dates due x) is (moves-dates due)
   moves-done Rests y why e p is = absurd (true≢false p)

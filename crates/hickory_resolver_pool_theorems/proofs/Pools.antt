@@ -298,7 +298,7 @@ module _ (past : List Happening) where
 
         by : (wants : Bool) → IsOver (cond wants
             (record {
-              traffic = record x.traffic { freed = x.traffic.freed - 1 };
+              traffic = x.traffic;
               current = then_do GoOn (changing (changed freed) x.current);
             })
             (record {

@@ -65,7 +65,9 @@ WhyGo e n t Expires = is_due e t ≡ true
 WhyGo e n t Draws = e.place ≡ None
 WhyGo e n t (BeginsRound place) = wants_round e.flying.flight.transaction ≡ true
 WhyGo e n t GivesUp = has_late e.flying.flight.transaction ≡ true
-WhyGo e n t Blocks = (is_blocked n t.table ≡ false) × (is_some (wanted e.flying.flight.transaction) ≡ true)
+WhyGo e n t Blocks =
+    (has_place t.shared.channels ≡ false) × (is_blocked n t.table ≡ false)
+    × (is_some (wanted e.flying.flight.transaction) ≡ true)
 WhyGo e n t Sends = is_some (wanted e.flying.flight.transaction) ≡ true
 WhyGo e n t (Dates due) =
     (same_moment due e.due ≡ false) × (due ≡ next_deadline e.flying.flight.transaction)
@@ -89,20 +91,21 @@ module _ (e : EntryState) (n : ℕ) (t : TrafficState) where
       by false is = (is, refl)
 
   why-sends : is_some (wanted tr) ≡ true → WhyGo e n t (sends_or_blocks n tr t)
-  why-sends wants = place (has_place t.shared.channels)
+  why-sends wants = place (has_place t.shared.channels) refl
     where
-      noted : (b : Bool) → is_blocked n t.table ≡ b → WhyGo e n t (cond b Sends Blocks)
-      noted true is = wants
-      noted false is = (is, wants)
+      noted : has_place t.shared.channels ≡ false → (b : Bool) → is_blocked n t.table ≡ b → WhyGo e n t (cond b Sends Blocks)
+      noted full true is = wants
+      noted full false is = (full, is, wants)
 
-      late : (b : Bool) → has_late tr ≡ b → WhyGo e n t (cond b GivesUp (cond (is_blocked n t.table) Sends Blocks))
-      late true is = is
-      late false is = noted (is_blocked n t.table) refl
+      late : has_place t.shared.channels ≡ false → (b : Bool) → has_late tr ≡ b
+          → WhyGo e n t (cond b GivesUp (cond (is_blocked n t.table) Sends Blocks))
+      late full true is = is
+      late full false is = noted full (is_blocked n t.table) refl
 
-      place : (b : Bool)
+      place : (b : Bool) → has_place t.shared.channels ≡ b
           → WhyGo e n t (cond b Sends (cond (has_late tr) GivesUp (cond (is_blocked n t.table) Sends Blocks)))
-      place true = wants
-      place false = late (has_late tr) refl
+      place true is = wants
+      place false is = late is (has_late tr) refl
 
   why-forward : is_ending n e.flying t ≡ false → WhyGo e n t (forward n e t)
   why-forward lives = by (wants_round tr) refl
@@ -396,7 +399,7 @@ module _ (x : Scene) (fit : IsFit x) (going : x.current.to_do ≡ todo.GoOn) whe
   falls-done Draws y why e p is = falls-by y (draws x) is (falls-draws why)
   falls-done (BeginsRound place) y why e p is = falls-begins place y is why
   falls-done GivesUp y why e p is = falls-by y (gives_up x) is (falls-gives_up why)
-  falls-done Blocks y why e p is = falls-by y (blocks x) is (falls-blocks why.0)
+  falls-done Blocks y why e p is = falls-by y (blocks x) is (falls-blocks why.1)
   falls-done Sends y why e p is = falls-by y (sends x) is (falls-sends why)
   falls-done (Dates due) y why e p is = falls-by y (dates due x) is (falls-dates due why.0 why.1)
   falls-done Rests y why e p is = absurd (true≢false p)
@@ -465,7 +468,7 @@ module _ (x : Scene) where
     where
       by : (wants : Bool) → RankFalls x (cond {A = Scene} wants
           (record {
-            traffic = record x.traffic { freed = x.traffic.freed - 1 };
+            traffic = x.traffic;
             current = then_do todo.GoOn (changing (changed transaction.freed) x.current);
           })
           (record {
@@ -473,7 +476,7 @@ module _ (x : Scene) where
             current = then_do todo.GoOn (changing (changed transaction.freed) x.current);
           }))
       by true = ranks (record {
-        traffic = record x.traffic { freed = x.traffic.freed - 1 };
+        traffic = x.traffic;
         current = then_do todo.GoOn (changing (changed transaction.freed) x.current);
       }) todo.Free is (omega arith)
       by false = ranks (record {

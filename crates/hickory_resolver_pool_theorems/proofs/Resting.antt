@@ -316,7 +316,7 @@ module _ (t : TrafficState) (out : t.outgoing ≡ None) where
         let none = none-failed free.sound in
         is_freeing (omega arith) (omega (arith, none)) none
         (taken-weight n todo.Free (after_task (task.TakesUp n todo.Free) t) refl e at cost_of) (omega arith)
-        (omega arith) (omega arith) free.first free.some refl)
+        (omega arith) (omega arith) free.first free.place refl)
 
     begun-refuse : (n : ℕ) → IsSound t → has_entry n t.table ≡ true → ByTask (task.TakesUp n todo.Refuse)
     begun-refuse n sound there =

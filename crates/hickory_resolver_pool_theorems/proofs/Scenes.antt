@@ -109,7 +109,7 @@ same-frees x = by (is_some (wanted (changed freed x.current.entry.flying.flight)
   where
     by : (wants : Bool) → IsSame x (cond {A = Scene} wants
         (record {
-          traffic = record x.traffic { freed = x.traffic.freed - 1 };
+          traffic = x.traffic;
           current = then_do todo.GoOn (changing (changed freed) x.current);
         })
         (record {

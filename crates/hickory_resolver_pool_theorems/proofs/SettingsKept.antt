@@ -1,5 +1,5 @@
 -- The settings of a transaction stay.
-use Rattle.std.proofs.Common.{◌≡◌, ◌-◌, ℕ, Bool, true, false, cond, List, [], ◌∷◌, refl, ap, ◌∙◌}
+use Rattle.std.proofs.Common.{◌≡◌, ℕ, Bool, true, false, cond, List, [], ◌∷◌, refl, ap, ◌∙◌}
 use Rattle.std.specs.Prelude.{Option, None, Some}
 use Rattle.std.specs.List.{list_any}
 use Rattle.std.specs.Option.{is_some, option_map_or}
@@ -303,7 +303,7 @@ stays-frees x = by (is_some (wanted (changed freed x.current.entry.flying.flight
   where
     by : (wants : Bool) → At x (cond {A = Scene} wants
         (record {
-          traffic = record x.traffic { freed = x.traffic.freed - 1 };
+          traffic = x.traffic;
           current = then_do todo.GoOn (changing (changed freed) x.current);
         })
         (record {

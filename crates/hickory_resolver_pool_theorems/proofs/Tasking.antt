@@ -1,10 +1,10 @@
 -- What is begun where no transaction is worked on and nothing goes out, with all that is known of it.
-use Rattle.std.proofs.Common.{◌≡◌, ◌≤◌, ◌<◌, ℕ, Bool, true, false, cond, refl, ap, sym, subst, ◌∙◌, leb, leb-true, ltb, ltb-true}
+use Rattle.std.proofs.Common.{◌≡◌, ◌≤◌, ℕ, Bool, true, false, cond, ◌&&◌, refl, ap, sym, subst, ◌∙◌, leb, leb-true, ltb}
 use Rattle.std.specs.Prelude.{Option, None, Some, IfSome, unwrap_or, slice_get}
 use Rattle.std.specs.Option.{is_some, option_map, option_map_or, option_or, option_and_then}
 use Rattle.hickory_resolver_askers.specs.Askers.{AskersState, WaitingValue, first_waiting, if_late, late_one}
 use Rattle.hickory_resolver_askers.specs.Askers as ask
-use Rattle.hickory_resolver_channels.specs.Channels.{channel_at, transaction_at, first_try, first_idle}
+use Rattle.hickory_resolver_channels.specs.Channels.{channel_at, transaction_at, first_try, first_idle, has_place}
 use Rattle.hickory_resolver_tries.specs.Heads.{head_of}
 use Rattle.hickory_resolver_traffic.specs.Doing.{id_of}
 use Rattle.hickory_resolver_traffic.specs.Inbox.{MessageValue, first_message, first_failure, first_unread}
@@ -42,7 +42,7 @@ module _ (t : TrafficState) where
   pub record IsFree (n : ℕ) : Type 0 where
     pub sound : IsSound
     pub first : first_blocked t.table ≡ Some n
-    pub some : 0 < t.freed
+    pub place : has_place t.shared.channels ≡ true
 
   abbrev pub TakesIs : ℕ → ToDo → Type 0
   TakesIs n todo.Hear = (is_some (first_message t.inbox) ≡ true) × (has_entry n t.table ≡ true)
@@ -195,11 +195,13 @@ module _ (t : TrafficState) where
         by false h = (sound, full (ask.has_place t.askers) is, h)
 
     task-free : (n : ℕ) → free_one t ≡ Some n → TaskIs (frees_or_unblocks t.table n)
-    task-free n is = has (first (ltb 0 t.freed) refl is) (has_entry n t.table) refl
+    task-free n is = has (first (ltb 0 t.freed) (has_place t.shared.channels) refl is) (has_entry n t.table) refl
       where
-        first : (b : Bool) → ltb 0 t.freed ≡ b → cond b (first_blocked t.table) None ≡ Some n → IsFree n
-        first true some e = record { sound = sound; first = e; some = ltb-true 0 t.freed some }
-        first false some e = absurd cc
+        first : (some place : Bool) → has_place t.shared.channels ≡ place
+            → cond (some && place) (first_blocked t.table) None ≡ Some n → IsFree n
+        first true true there e = record { sound = sound; first = e; place = there }
+        first true false there e = absurd cc
+        first false place there e = absurd cc
 
         has : IsFree n → (b : Bool) → has_entry n t.table ≡ b
             → TaskIs (cond b (task.TakesUp n todo.Free) (task.Unblocks n))

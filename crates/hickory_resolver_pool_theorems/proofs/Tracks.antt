@@ -3,13 +3,10 @@
 use Rattle.std.proofs.Common.{◌≡◌, ◌≤◌, ◌<◌, ◌+◌, ℕ, Bool, true, false, List, length, refl, ap, sym, subst, ◌∙◌, true≢false, arith, inl, inr, ◌⊎◌}
 use Rattle.std.specs.Prelude.{Option, None, Some, slice_get}
 use Rattle.std.specs.Option.{is_some, option_map_or}
-use Rattle.std.specs.BTreeMap.{is_at}
-use Rattle.std.specs.Ordering.{nat_cmp}
-use Rattle.std.specs.List.{list_any}
 use Rattle.hickory_resolver_askers.specs.Askers.{AskersState}
 use Rattle.hickory_resolver_traffic.specs.Doing.{Scene, IsDone, doing, doing_for, by_failure, place_on, is_due, hears, doubts, stalls, fails, quits, expires, frees}
 use Rattle.hickory_resolver_traffic.specs.Inbox.{InboxState, first_message, first_failure, without_message, without_failure}
-use Rattle.hickory_resolver_traffic.specs.Table.{EntryState, is_blocked}
+use Rattle.hickory_resolver_traffic.specs.Table.{EntryState}
 use Rattle.hickory_resolver_traffic.specs.declared.doing.Doing.TheVariants as doings
 use Rattle.hickory_resolver_traffic.specs.declared.entry.ToDo.{ToDo}
 use Rattle.hickory_resolver_traffic.specs.declared.entry.ToDo.TheVariants as todo
@@ -19,7 +16,7 @@ use Rattle.hickory_resolver_traffic.specs.declared.inbox.Failure.TheVariants as 
 use Rattle.hickory_resolver_pool.specs.Pool.{is_end, is_put}
 use Rattle.hickory_resolver_pool_theorems.proofs.Early.{IsHeard, is_doubted, is_dropped, hears-is, doubts-less, came-done, IsFailed, is_left, is_over, stalls-is, fails-is, HasQuit, goes_back, is_closed, Quitting, quits-is, placed-failure, expires-is, frees-is}
 use Rattle.hickory_resolver_pool_theorems.proofs.Frames.{kept-done}
-use Rattle.hickory_resolver_pool_theorems.proofs.Moves.{cost_of, wants_in, Change, falls, stays, notes, Moves, moves-done}
+use Rattle.hickory_resolver_pool_theorems.proofs.Moves.{cost_of, wants_in, place_in, Change, falls, stays, notes, Moves, moves-done}
 use Rattle.hickory_resolver_pool_theorems.proofs.PutAway.{why-going, IsFit}
 use Rattle.hickory_resolver_pool_theorems.proofs.Scenes.{same-done}
 use Rattle.hickory_resolver_pool_theorems.proofs.Weights.{weigh, came_of, one-less}
@@ -42,10 +39,9 @@ pub record View : Type 0 where
   pub to_do : ToDo
   pub message : Bool
   pub placed : Bool
-  pub blocked : Bool
+  pub place : Bool
   pub wants : Bool
   pub past : Bool
-  pub freed : ℕ
   pub first : Option ℕ
   pub number : ℕ
 
@@ -61,10 +57,9 @@ view_of x = record {
   to_do = x.current.to_do;
   message = is_some (first_message x.traffic.inbox);
   placed = is_some (place_on x);
-  blocked = is_blocked x.current.number x.traffic.table;
+  place = place_in x;
   wants = wants_in x;
   past = is_due x.current.entry x.traffic;
-  freed = x.traffic.freed;
   first = slice_get x.traffic.table.blocked 0;
   number = x.current.number;
 }
@@ -94,8 +89,8 @@ module _ (b : Start) where
     of_cost : v.cost < b.cost → Lower v
     of_channels : v.cost ≤ b.cost → v.channels < b.channels → Lower v
     of_due : v.cost ≤ b.cost → v.channels ≤ b.channels → v.due < b.due → Lower v
-    of_waits : v.cost ≤ b.cost → v.channels ≤ b.channels → v.due ≤ b.due → v.waits < b.waits
-        → (v.blocked ≡ true) ⊎ (v.wants ≡ false) → Lower v
+    of_waits : v.cost ≤ b.cost → v.channels ≤ b.channels → v.due ≤ b.due → v.waits < b.waits → v.wants ≡ false → Lower v
+    of_place : v.cost ≤ b.cost → v.place ≡ true → v.wants ≡ true → Lower v
 
   pub data Track (v : View) : Type 0 where
     has_read : v.came < b.came → Track v
@@ -110,7 +105,7 @@ module _ (b : Start) where
     is_expiring : v.came ≤ b.came → v.failed ≤ 0 → b.failed ≡ 0 → v.cost ≤ b.cost → v.past ≡ true
         → v.to_do ≡ todo.Expire → Track v
     is_freeing : v.came ≤ b.came → v.failed ≤ 0 → b.failed ≡ 0 → v.cost ≤ b.cost → v.channels ≤ b.channels
-        → v.due ≤ b.due → v.waits ≤ b.waits → v.first ≡ Some v.number → 0 < v.freed → v.to_do ≡ todo.Free → Track v
+        → v.due ≤ b.due → v.waits ≤ b.waits → v.first ≡ Some v.number → v.place ≡ true → v.to_do ≡ todo.Free → Track v
     is_refused : v.came ≤ b.came → v.failed ≤ 0 → b.failed ≡ 0 → v.cost ≤ b.cost → v.to_do ≡ todo.Refuse → Track v
     goes : v.came ≤ b.came → v.failed ≤ 0 → b.failed ≡ 0 → Lower v → v.to_do ≡ todo.GoOn → Track v
 
@@ -138,9 +133,6 @@ module _ (b : Start) where
 
     same-waiting : length y.traffic.askers.waiting ≡ length x.traffic.askers.waiting
     same-waiting = ap (λ (a : AskersState). length a.waiting) (same-done (doing x.current x.traffic) x y is).askers
-
-    same-number : y.current.number ≡ x.current.number
-    same-number = (same-done (doing x.current x.traffic) x y is).number
 
     -- what is done, by what is to be done with it
     at-to_do : (d : ToDo) → x.current.to_do ≡ d
@@ -297,6 +289,7 @@ module _ (b : Start) where
         below (of_channels le less) = le
         below (of_due le one less) = le
         below (of_waits le one two less why) = le
+        below (of_place le there wants) = le
 
         by : Change x y → Lower (view_of x) → Lower (view_of y)
         by (falls less) l =
@@ -314,19 +307,18 @@ module _ (b : Start) where
             let wt = same-waiting in let fr = k.freed in
             let bl : length y.traffic.table.blocked ≡ length x.traffic.table.blocked = ap length k.blocked in
             of_waits (omega (arith, le, one, es)) (omega (arith, ch, two)) (omega (arith, rd, wt, three))
-            (omega (arith, fr, bl, less)) (still why k.wants)
+            (omega (arith, fr, bl, less)) (still k.wants)
           where
-            noted : is_blocked x.current.number x.traffic.table ≡ true → is_blocked y.current.number y.traffic.table ≡ true
-            noted h =
-                ap (λ (n : ℕ). is_blocked n y.traffic.table) same-number
-                ∙ ap (λ (ks : List ℕ). list_any (is_at (nat_cmp x.current.number)) ks) k.blocked ∙ h
-
-            still : (is_blocked x.current.number x.traffic.table ≡ true) ⊎ (wants_in x ≡ false)
-                → (wants_in x ≡ true) ⊎ (wants_in y ≡ wants_in x)
-                → (is_blocked y.current.number y.traffic.table ≡ true) ⊎ (wants_in y ≡ false)
-            still (inl h) w = inl (noted h)
-            still (inr h) (inl w) = absurd (true≢false (sym w ∙ h))
-            still (inr h) (inr w) = inr (w ∙ h)
+            still : ((wants_in x ≡ true) × (place_in x ≡ false)) ⊎ (wants_in y ≡ wants_in x) → wants_in y ≡ false
+            still (inl w) = absurd (true≢false (sym w.0 ∙ why))
+            still (inr w) = w ∙ why
+        by (stays k) (of_place one there wants) =
+            let es = entries in let le = k.cost in
+            of_place (omega (arith, le, one, es)) (k.place ∙ there) (still k.wants)
+          where
+            still : ((wants_in x ≡ true) × (place_in x ≡ false)) ⊎ (wants_in y ≡ wants_in x) → wants_in y ≡ true
+            still (inl w) = absurd (true≢false (sym there ∙ w.1))
+            still (inr w) = w ∙ wants
         by (notes k) (of_cost less) = let es = entries in let le = k.cost in of_cost (omega (arith, le, less, es))
         by (notes k) (of_channels one less) =
             let es = entries in let le = k.cost in let ch = k.channels in
@@ -335,8 +327,8 @@ module _ (b : Start) where
             let es = entries in let le = k.cost in let ch = k.channels in let rd = ready in
             let wt = same-waiting in
             of_due (omega (arith, le, one, es)) (omega (arith, ch, two)) (omega (arith, rd, wt, less))
-        by (notes k) (of_waits one two three less (inl h)) = absurd (true≢false (sym h ∙ k.none))
-        by (notes k) (of_waits one two three less (inr h)) = absurd (true≢false (sym k.wants ∙ h))
+        by (notes k) (of_waits one two three less h) = absurd (true≢false (sym k.wants ∙ h))
+        by (notes k) (of_place one there wants) = absurd (true≢false (sym there ∙ k.full))
 
     pub track-done : Track (view_of x) → Next
     track-done (has_read less) = let le = less-came in has_read (omega (arith, le, less))
@@ -355,9 +347,9 @@ module _ (b : Start) where
         ap (λ (xs : List (ℕ × EntryState)). weigh cost_of xs) (same-done doings.Expires x (expires x) refl).entries in
         let less = k.cost in
         goes (omega (arith, one, came)) (omega (arith, two, failed)) none (of_cost (omega (arith, es, less, cost))) k.to_do)
-    track-done (is_freeing came failed none cost channels due waits first some to_do) =
+    track-done (is_freeing came failed none cost channels due waits first there to_do) =
         next-by (frees x) (at-to_do todo.Free to_do).2
-        (let k = frees-is x fit first some in
+        (let k = frees-is x fit first in
         let one = came-same (frees x) k.inbox in
         let two : length (frees x).traffic.inbox.failures ≡ length x.traffic.inbox.failures =
         ap (λ (i : InboxState). length i.failures) k.inbox in
@@ -366,10 +358,18 @@ module _ (b : Start) where
         let wt : length (frees x).traffic.askers.waiting ≡ length x.traffic.askers.waiting =
         ap (λ (a : AskersState). length a.waiting) (same-done doings.Frees x (frees x) refl).askers in
         let le = k.cost in let ch = k.channels in let rd : length (frees x).traffic.ready ≡ length x.traffic.ready = ap length k.ready in
-        let less = k.waits in
         goes (omega (arith, one, came)) (omega (arith, two, failed)) none
-        (of_waits (omega (arith, es, le, cost)) (omega (arith, ch, channels)) (omega (arith, wt, rd, due))
-        (omega (arith, less, waits)) k.why) k.to_do)
+        (lower (omega (arith, es, le, cost)) (k.place ∙ there) (omega (arith, ch, channels)) (omega (arith, wt, rd, due)) k.why)
+        k.to_do)
+      where
+        -- it is sent, as there is a place, or waits for none
+        lower : (view_of (frees x)).cost ≤ b.cost → place_in (frees x) ≡ true → (view_of (frees x)).channels ≤ b.channels
+            → (view_of (frees x)).due ≤ b.due → (wants_in (frees x) ≡ true)
+            ⊎ ((wants_in (frees x) ≡ false) × ((view_of (frees x)).waits < x.traffic.freed + length x.traffic.table.blocked))
+            → Lower (view_of (frees x))
+        lower le place ch rd (inl wants) = of_place le place wants
+        lower le place ch rd (inr less) =
+            let fewer = less.1 in of_waits le ch rd (omega (arith, fewer, waits)) less.0
     track-done (is_refused came failed none cost to_do) = absurd (true≢false (at-to_do todo.Refuse to_do).0)
     track-done (goes came failed none low to_do) =
         let m = moved to_do in

@@ -121,7 +121,7 @@ streams-frees x = by (is_some (wanted (changed freed x.current.entry.flying.flig
   where
     by : (wants : Bool) → IsStreams x (cond {A = Scene} wants
         (record {
-          traffic = record x.traffic { freed = x.traffic.freed - 1 };
+          traffic = x.traffic;
           current = then_do todo.GoOn (changing (changed freed) x.current);
         })
         (record {

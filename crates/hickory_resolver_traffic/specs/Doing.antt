@@ -306,8 +306,7 @@ expires x = with_to_do GoOn (act_on act.Expire [] x)
 -- a channel is free: the first that waits for one is sent; where none does, it waits for none
 abbrev pub after_free : Scene → Scene
 after_free x =
-    if is_some (wanted x.current.entry.flying.flight.transaction)
-    then record { traffic = record x.traffic { freed = x.traffic.freed - 1 }; current = x.current }
+    if is_some (wanted x.current.entry.flying.flight.transaction) then x
     else record {
       traffic = record x.traffic { table = without_blocked x.current.number x.traffic.table };
       current = x.current;
@@ -336,9 +335,19 @@ blocks x = record {
 abbrev pub outgoing_of : ℕ → SendingValue → OutgoingValue
 outgoing_of list sending = record { list = list; sending = sending }
 
+-- only what opens a channel takes one that came free
+abbrev pub is_opening : Option SendingValue → Bool
+is_opening sending = option_map_or (λ o. o.is_new) sending false
+
+abbrev pub freed_after : Option SendingValue → ℕ → ℕ
+freed_after sending freed = if is_opening sending then freed - 1 else freed
+
 abbrev pub with_outgoing : Option SendingValue → Scene → Scene
 with_outgoing sending x = record {
-  traffic = record x.traffic { outgoing = option_map (outgoing_of x.current.entry.asked.0) sending };
+  traffic = record x.traffic {
+    outgoing = option_map (outgoing_of x.current.entry.asked.0) sending;
+    freed = freed_after sending x.traffic.freed;
+  };
   current = x.current;
 }
 

@@ -4,7 +4,7 @@ use Rattle.std.specs.Option.{is_some, option_map, option_map_or, option_or, opti
 use Rattle.std.specs.declared.net.SocketAddr.{SocketAddr}
 use Rattle.hickory_resolver_askers.specs.Askers.{late_one, to_admit}
 use Rattle.hickory_resolver_askers.specs.Askers as ask
-use Rattle.hickory_resolver_channels.specs.Channels.{first_try, transaction_at, first_idle, channel_at}
+use Rattle.hickory_resolver_channels.specs.Channels.{first_try, transaction_at, first_idle, channel_at, has_place}
 use Rattle.hickory_resolver_channels.specs.Channels as channels
 use Rattle.hickory_resolver_channels.specs.declared.channel.ChannelKind.{ChannelKind}
 use Rattle.hickory_resolver_channels.specs.declared.channel.ChannelKind.TheVariants.{Datagram, Stream}
@@ -91,8 +91,9 @@ refuses_or_strays t n = if has_entry n t then TakesUp n Refuse else Strays n
 abbrev pub frees_or_unblocks : TableState → ℕ → Task
 frees_or_unblocks t n = if has_entry n t then TakesUp n Free else Unblocks n
 
+-- where a channel came free, and was taken by none meanwhile
 abbrev pub free_one : TrafficState → Option ℕ
-free_one s = if nat_lt 0 s.freed then first_blocked s.table else None
+free_one s = if nat_lt 0 s.freed && has_place s.shared.channels then first_blocked s.table else None
 
 -- ---- the first of these
 

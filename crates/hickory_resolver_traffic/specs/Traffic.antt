@@ -35,7 +35,7 @@ pub record OutgoingValue : Type 0 where
 
 -- The latest moment that was told; what all transactions share; who asks; the servers; the transactions; what came and
 -- was not read; those that are ready to go on; what goes out next; and how many channels were closed for which
--- something waited.
+-- something waited, and for which none was opened since.
 pub record TrafficState : Type 0 where
   pub rules : Rules
   pub clock : ℕ

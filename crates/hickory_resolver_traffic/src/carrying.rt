@@ -7,7 +7,7 @@ ghost use Rattle.hickory_resolver_flights.specs.Flights.{changed};
 ghost use Rattle.hickory_resolver_transactions.specs.Transaction.{freed, places_left, wanted};
 ghost use Rattle.hickory_resolver_traffic.specs.Groups.{list_at, list_in};
 ghost use Rattle.hickory_resolver_traffic.specs.Inbox.{first_message, first_failure};
-ghost use Rattle.hickory_resolver_traffic.specs.Doing.{Scene, id_of, act_on, value_of_act, with_to_do, after_heard, hear_of, heard_of_first, hears_first, hears, is_stream_kind, is_stream, broken, doubted, doubts_first, doubts, after_failed, fails_on, fails, stalls_on, stalls, idle_until, leaving_at, leave_at, closed_if, closed_at, one_freed, freed_if, leaves, is_on, place_on, after_quit, quits_at, quits, closed_by_quitting, expires, after_free, frees, draws, gives_up, blocks, outgoing_of, with_outgoing, sends, dates, round_of, with_probe, with_round_parts, in_order_of, probed_lists, IsRound, BeginsWith, BeginsRoundIn, IsDone, closed_by};
+ghost use Rattle.hickory_resolver_traffic.specs.Doing.{Scene, id_of, act_on, value_of_act, with_to_do, after_heard, hear_of, heard_of_first, hears_first, hears, is_stream_kind, is_stream, broken, doubted, doubts_first, doubts, after_failed, fails_on, fails, stalls_on, stalls, idle_until, leaving_at, leave_at, closed_if, closed_at, one_freed, freed_if, leaves, is_on, place_on, after_quit, quits_at, quits, closed_by_quitting, expires, after_free, frees, draws, gives_up, blocks, outgoing_of, is_opening, freed_after, with_outgoing, sends, dates, round_of, with_probe, with_round_parts, in_order_of, probed_lists, IsRound, BeginsWith, BeginsRoundIn, IsDone, closed_by};
 
 use crate::acting::{ActedParts, ServerAct, act, later};
 use crate::choices::IDLE_FOR;
@@ -356,9 +356,7 @@ impl Traffic {
             ≡ frees (record { traffic = self.old; current = current.old }) }
     {
         current.to_do = ToDo::GoOn;
-        if goes_on_freed(&mut current.entry.parts.flying) {
-            self.freed = self.freed.saturating_sub(1);
-        } else {
+        if !goes_on_freed(&mut current.entry.parts.flying) {
             self.table.unblock(current.number);
         }
     }
@@ -402,6 +400,7 @@ impl Traffic {
         ensures unchanged { OnErr result (current.new ≡ current.old) }
     {
         let acted = self.act_on(current, ServerAct::Send)?;
+        self.freed = freed_after(&acted.sending, self.freed);
         self.outgoing = outgoing_of(current.entry.parts.asked.0, acted.sending);
         Ok(())
     }
@@ -456,6 +455,26 @@ impl Traffic {
             Doing::PutsBack | Doing::Refused | Doing::Ends | Doing::Rests => {}
         }
         Ok(None)
+    }
+}
+
+fn is_opening(sending: &Option<Sending>) -> bool
+    ensures { result ≡ is_opening sending.now }
+{
+    match sending {
+        Some(sending) => sending.is_new,
+        None => false,
+    }
+}
+
+// How many channels that came free are left, where this is sent.
+fn freed_after(sending: &Option<Sending>, freed: u64) -> u64
+    ensures { result ≡ freed_after sending.now freed }
+{
+    if is_opening(sending) {
+        freed.saturating_sub(1)
+    } else {
+        freed
     }
 }
 

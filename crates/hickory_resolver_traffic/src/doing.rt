@@ -128,7 +128,8 @@ impl Traffic {
         flying.flight.transaction().outcome().is_some() || self.askers.askers(number).is_none()
     }
 
-    fn has_place(&self) -> bool
+    // Whether there may be a channel more.
+    pub(crate) fn has_place(&self) -> bool
         ensures { result ≡ has_place self.now.shared.channels }
     {
         self.shared.channels.number_given().is_some()

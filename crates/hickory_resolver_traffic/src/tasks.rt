@@ -150,7 +150,7 @@ impl Traffic {
     fn free_one(&self) -> Option<u64>
         ensures { result ≡ free_one self.now }
     {
-        if self.freed > 0 {
+        if self.freed > 0 && self.has_place() {
             self.table.first_blocked()
         } else {
             None
