@@ -50,7 +50,7 @@ use Rattle.yimarotu_session_theorems.specs.NetworkRuns.{Happens, NetworkEvent, a
 use Rattle.yimarotu_session_theorems.proofs.AskedAhead.{asked-alone, equal-then, found-asking, found-waiting, from-equal}
 use Rattle.yimarotu_session_theorems.proofs.Asking.{asks}
 use Rattle.yimarotu_session_theorems.proofs.Going.{Played, Went, dropped, gone-on-at, heard-alone, none-done, own-places, passed, puts-lookup, started, table-stays}
-use Rattle.yimarotu_session_theorems.proofs.Kept.{EndsLess, IsAskedFor, IsSettledAt, IsTelling, IsToldOf, Kept, Lookups, Places, PlacesLess, PoolMoves, ahead-on, alike, asked-on, asks-same, call-of-lookup, call_at, call_of, ends-put, ends-put-undone, ends-same, first, keeps, keeps-telling, lookup-not-asked, lookups-less, lookups-same, options, places-less, places-same, places-untold, pool-does, pool-stays, pool-takes, pool-takes-both, puts-calls, question_for, starts-done, told-grows}
+use Rattle.yimarotu_session_theorems.proofs.Kept.{EndsLess, IsAskedFor, IsSettledAt, IsTelling, IsToldOf, Kept, Lookups, Places, PlacesLess, PoolMoves, ahead-on, alike, asked-on, asks-same, call-of-lookup, call_at, call_of, comes-at-once, ends-put, ends-put-undone, ends-same, first, keeps, keeps-telling, lookup-not-asked, lookups-less, lookups-same, options, places-less, places-same, places-untold, pool-does, pool-stays, pool-takes, pool-takes-both, puts-calls, question_for, told-grows}
 use Rattle.yimarotu_session_theorems.proofs.Moves.{Puts, clears, over, stays, waiting_in, world}
 
 module _ (resolver : ResolverValue (List OutcomeValue)) (limits : PoolLimits) (seed : List ℕ) where
@@ -122,7 +122,7 @@ module _ (resolver : ResolverValue (List OutcomeValue)) (limits : PoolLimits) (s
             (puts-lookup resolver limits seed brought s k after n (lookup_of b.progress) (waiting_in (progress_of b.progress)) (call-of-lookup b.progress) b.begins.puts)
             (λ call at.
             ends-put (CallStarted call at (progress_of b.progress) ∷ []) n (Some (lookup_of b.progress)) s.table.lookups after.table.lookups
-            (λ found c e. inr (starts-done b.progress call at found c e)) b.begins.puts)
+            (λ found c e. inr (comes-at-once (CallStarted call at (progress_of b.progress)) b.progress found c (λ r is. is) e)) b.begins.puts)
             b.comes)
             (record {
               lookups = lookups-less n (Some (lookup_of b.progress)) s.table.lookups after.table.lookups (lookup-not-asked b.progress) b.begins.puts;

@@ -23,7 +23,7 @@ use Rattle.yimarotu_session.specs.declared.ahead.SecondQuestion.{SecondQuestion}
 use Rattle.yimarotu_session.specs.declared.network_lookup.NetworkLookup.{NetworkLookup}
 use Rattle.yimarotu_session.specs.declared.network_lookup.NetworkLookup.TheVariants.{Asks, Asked, Done}
 use Rattle.yimarotu_session_theorems.specs.NetworkLaws.{IsFedFrom, IsFromPool, question_with}
-use Rattle.yimarotu_session_theorems.proofs.Kept.{AsksLess, Done-to, EndsLess, Kept, Lookups, LookupsLess, Places, PlacesLess, alike, asks-same, call-of-lookup, call_at, call_of, ends-put, ends-same, feeds-done, first, keeps-telling, lookup-not-asked, lookups-less, lookups-same, options, places-same, pool-stays, puts-calls}
+use Rattle.yimarotu_session_theorems.proofs.Kept.{AsksLess, Done-to, EndsLess, Kept, Lookups, LookupsLess, Places, PlacesLess, alike, asks-same, call-of-lookup, call_at, call_of, comes-at-once, ends-put, ends-same, first, keeps-telling, lookup-not-asked, lookups-less, lookups-same, options, places-same, pool-stays, puts-calls}
 use Rattle.yimarotu_session_theorems.proofs.Moves.{Comes-and-goes, Puts, begins, drops, feeds, heard, over, stays, unheard, waiting_in}
 
 module _ (resolver : ResolverValue (List OutcomeValue)) (limits : PoolLimits) (seed : List ℕ) where
@@ -162,7 +162,7 @@ module _ (resolver : ResolverValue (List OutcomeValue)) (limits : PoolLimits) (s
         (puts-lookup n held (waiting_in (progress_of r.progress)) (ap call_of r.held_is ∙ call-of-lookup r.progress) puts) from
         (λ c.
         ends-put (CallFed c outcome (progress_of r.progress) ∷ []) n (Some held) s.table.lookups after.table.lookups
-        (λ found b e. inr (feeds-done r.progress c outcome found b (ap (λ (h : NetworkLookup). Some h) (sym r.held_is) ∙ e))) puts)
+        (λ found b e. inr (comes-at-once (CallFed c outcome (progress_of r.progress)) r.progress found b (λ x is. is) (ap (λ (h : NetworkLookup). Some h) (sym r.held_is) ∙ e))) puts)
 
     pub resumed-less : (n : ℕ) (w : WaitingCallValue) (outcome : OutcomeValue) (held : NetworkLookup)
         → PutsUnder n (Some held) s.table.lookups after.table.lookups → Resumes w outcome s.resolver after.resolver held

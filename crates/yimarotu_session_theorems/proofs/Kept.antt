@@ -19,7 +19,7 @@ use Rattle.hickory_resolver_model.specs.Options.{request_options_of}
 use Rattle.hickory_resolver_model.specs.Resolver.{ResolverValue, settings}
 use Rattle.hickory_resolver_model.specs.Lookup.{LookupResult}
 use Rattle.hickory_resolver_model.specs.Resuming.{IsDone}
-use Rattle.hickory_resolver_model.specs.Run.{Call, Settings}
+use Rattle.hickory_resolver_model.specs.Run.{Settings}
 use Rattle.hickory_resolver_pool.specs.Laws.{PoolEvent, after_event}
 use Rattle.hickory_resolver_pool.specs.Over.{OverValue}
 use Rattle.hickory_resolver_pool.specs.Pool.{PoolState, Steps, no_servers}
@@ -29,7 +29,7 @@ use Rattle.hickory_resolver_pool_theorems.specs.Runs.{Happening, Runs, WasOver, 
 use Rattle.hickory_resolver_pool_theorems.specs.Runs as runs
 use Rattle.hickory_resolver_pool_theorems.proofs.Asked.{IsOwn, own-event, own-step}
 use Rattle.hickory_resolver_pool_theorems.proofs.Later.{over-grows}
-use Rattle.hickory_resolver_theorems.specs.InterleavedCalls.{PendingCallValue, CallDropped, CallEventValue, CallFed, CallStarted, CallWorldValue, CallsHappen, HostsReplaced, AllCleared, NameCleared, call_world_of}
+use Rattle.hickory_resolver_theorems.specs.InterleavedCalls.{CallDropped, CallEventValue, CallFed, CallStarted, CallWorldValue, CallsHappen, HostsReplaced, AllCleared, NameCleared, call_world_of}
 use Rattle.hickory_resolver_theorems.specs.ResumingCalls.{WaitingCallValue}
 use Rattle.hickory_resolver_tries.specs.Question.{question_eq, question_of}
 use Rattle.hickory_resolver_tries.specs.declared.pool_question.PoolQuestion.{PoolQuestion}
@@ -43,7 +43,7 @@ use Rattle.yimarotu_session.specs.declared.ahead.Ahead.TheVariants.{Nothing, Tol
 use Rattle.yimarotu_session.specs.declared.ahead.SecondQuestion.{SecondQuestion}
 use Rattle.yimarotu_session.specs.declared.network_lookup.NetworkLookup.{NetworkLookup}
 use Rattle.yimarotu_session.specs.declared.network_lookup.NetworkLookup.TheVariants.{Asks, Asked, Done}
-use Rattle.yimarotu_session_theorems.specs.NetworkLaws.{AreOfCalls, IsFedFrom, IsFromPool, SomeComesTo, question_with}
+use Rattle.yimarotu_session_theorems.specs.NetworkLaws.{AreOfCalls, ComesTo, IsFedFrom, IsFromPool, SomeComesTo, question_with}
 use Rattle.yimarotu_session_theorems.proofs.Moves.{AreFlying, Flights, Moves, Puts, over, waiting_in, world}
 
 -- ---- the calls of look-ups
@@ -197,33 +197,20 @@ pub ends-put-undone : (told : List CallEventValue) (n : ℕ) (held : Option Netw
 ends-put-undone told n held before after undone puts =
     ends-put told n held before after (λ found b e. absurd (undone found b e)) puts
 
--- a call that is started, or goes on, comes to what its look-up does
-pub starts-done : (p : CallProgress) (call : Call) (now : ℕ) (found : LookupResult) (b : Bool)
-    → Some (lookup_of p) ≡ Some (Done found b) → SomeComesTo found (CallStarted call now (progress_of p) ∷ [])
-starts-done (progress.Waiting w) call now found b e =
+-- a call that is started, or goes on, comes with that event to what its look-up does
+pub comes-at-once : (event : CallEventValue) (p : CallProgress) (found : LookupResult) (b : Bool)
+    → ((r : LookupResult) → progress_of p ≡ IsDone r → ComesTo r event) → Some (lookup_of p) ≡ Some (Done found b)
+    → SomeComesTo found (event ∷ [])
+comes-at-once event (progress.Waiting w) found b comes e =
     let clash : Some (Asks w) ≡ Some (Done found b) = e in absurd cc
-starts-done (progress.Done result) call now found b e =
+comes-at-once event (progress.Done result) found b comes e =
     let same : result ≡ found = cc in
     record {
       earlier = [];
-      event = CallStarted call now (IsDone result);
+      event = event;
       later = [];
       among = refl;
-      comes_to = ap (λ (r : LookupResult). IsDone r) same;
-    }
-
-pub feeds-done : (p : CallProgress) (call : PendingCallValue) (outcome : OutcomeValue) (found : LookupResult) (b : Bool)
-    → Some (lookup_of p) ≡ Some (Done found b) → SomeComesTo found (CallFed call outcome (progress_of p) ∷ [])
-feeds-done (progress.Waiting w) call outcome found b e =
-    let clash : Some (Asks w) ≡ Some (Done found b) = e in absurd cc
-feeds-done (progress.Done result) call outcome found b e =
-    let same : result ≡ found = cc in
-    record {
-      earlier = [];
-      event = CallFed call outcome (IsDone result);
-      later = [];
-      among = refl;
-      comes_to = ap (λ (r : LookupResult). IsDone r) same;
+      comes_to = comes found (ap (λ (r : LookupResult). IsDone r) same);
     }
 
 comes-before : (found : LookupResult) (told more : List CallEventValue) → SomeComesTo found told
