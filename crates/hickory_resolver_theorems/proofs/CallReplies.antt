@@ -13,10 +13,10 @@ use Rattle.hickory_resolver_model.specs.Calls.{Source, Hosts, Client, SubLookup,
 use Rattle.hickory_resolver_model.specs.Run.{Settings, Call, IsCall}
 use Rattle.hickory_resolver_theorems.specs.Cacheless.{ResolvesTo, IsConsistentWith}
 use Rattle.hickory_resolver_theorems.specs.CallFacts.{IsCallBy, IsOwnAnswer}
-use Rattle.hickory_resolver_theorems.specs.CallReplies.{CachelessSubLookupOver, IsTransparentReply, IsOneCachelessCall, MeanWithinEight, IsPromisedCallReply, IsPromisedCallReplySince, ArePromisedCallReplies}
+use Rattle.hickory_resolver_theorems.specs.CallReplies.{CachelessSubLookupOver, IsTransparentReply, IsOneCachelessCall, StartedWithinEight, IsPromisedCallReply, IsPromisedCallReplySince, ArePromisedCallReplies}
 use Rattle.hickory_resolver_theorems.specs.Cores.{reply_core}
 use Rattle.hickory_resolver_theorems.specs.Covered.{Dated}
-use Rattle.hickory_resolver_theorems.specs.Interleaved.{DoneValue, world_of, EventValue, received_by, received_in, ended_by, ended_in, MeansWithinEight, IsMeant, IsSeenBy}
+use Rattle.hickory_resolver_theorems.specs.Interleaved.{DoneValue, world_of, EventValue, received_by, received_in, ended_by, ended_in, DoneWithinEight, IsMeant, IsSeenBy}
 use Rattle.hickory_resolver_theorems.specs.InterleavedCalls.{DoneCallValue, CallEventValue, call_context_over, IsAskedIn, IsPromisedAmong, IsInterleavedLookup, IsInterleavedFrom, InterleavedSubLookup, IsPromisedCallEnd, IsPromisedCallEndSince, calls_ended_by, calls_received_by, calls_received_in}
 use Rattle.hickory_resolver_theorems.specs.Statements.{LeastTtlIsZero, IsFreshReply, IsFreshSubLookup, IsCachelessSubLookup, CachelessSubLookup}
 use Rattle.hickory_resolver_theorems.proofs.Lists.{all-weaker, all-front, has-all, contains-to_recursion}
@@ -69,7 +69,7 @@ module _ (s : Settings) (empty : CacheValue) (tables : List (List Host)) (lookup
           off,
           apart,
           all-front (λ x. IsConsistentWith table x.exchange) received_then (received_in among.later) (subst (AllByRecursion (λ x. IsConsistentWith table x.exchange)) received-split tells),
-          all-front (MeansWithinEight table) ended_then (ended_in among.later) (subst (AllByRecursion (MeansWithinEight table)) ended-split few),
+          all-front (DoneWithinEight table) ended_then (ended_in among.later) (subst (AllByRecursion (DoneWithinEight table)) ended-split few),
         )
 
   -- ---- a part
@@ -164,7 +164,7 @@ module _ (s : Settings) (empty : CacheValue) (tables : List (List Host)) (lookup
     }
 
 -- a look-up of a call that was started, where each question of these means something
-asked-meant : (s : Settings) (table : TableValue) (events : List CallEventValue) → MeanWithinEight table s events → (d : DoneValue) → IsAskedIn s events d → MeansWithinEight table d
+asked-meant : (s : Settings) (table : TableValue) (events : List CallEventValue) → StartedWithinEight table s events → (d : DoneValue) → IsAskedIn s events d → DoneWithinEight table d
 asked-meant s table events means d (call, started, of) = means call d.now d.question started of
 
 pub replies_promised : (s : Settings) (empty : CacheValue) (first : List Host) → ArePromisedCallReplies s empty first
@@ -175,7 +175,7 @@ replies_promised s empty first none events event before after happen happens =
       is = is;
       replies = all-weaker (IsPromisedCallEndSince s empty first (events ++ event ∷ []) is.lookups) (IsPromisedCallReplySince s empty first (events ++ event ∷ []) is.lookups received)
           (λ d ended. (ended.0, ended.1, reply-promised s empty ended.0 is.lookups received is.received_is d ended.2)) (calls_ended_by event) is.ended;
-      meant = λ table means. all-weaker (IsAskedIn s (events ++ event ∷ [])) (MeansWithinEight table) (asked-meant s table (events ++ event ∷ []) means) (ended_in is.lookups) is.asked;
+      meant = λ table means. all-weaker (IsAskedIn s (events ++ event ∷ [])) (DoneWithinEight table) (asked-meant s table (events ++ event ∷ []) means) (ended_in is.lookups) is.asked;
     }
 
 -- ---- one reply without a cache

@@ -17,7 +17,7 @@ use Rattle.hickory_resolver_model.specs.Attempts.{attempts}
 use Rattle.hickory_resolver_model.specs.Run.{Settings, call_context_at, RequestValue, Lookup, LookupIp, ClearLookup, Clear, StepReply, LookedUp, LookedUpIp, Cleared, ends_run, drop_each, after_clear, Call, name_call, address_call, IsCall, IsServed, StepValue, Stage, IsStage, AreStages, exchanges_of, Run}
 use Rattle.hickory_resolver_theorems.specs.Cacheless.{IsTable, ResolvesTo, IsConsistentWith, AreConsistentWith}
 use Rattle.hickory_resolver_theorems.specs.Cores.{reply_core}
-use Rattle.hickory_resolver_theorems.specs.Statements.{IsWhatItResolvesTo, AreWhatTheyResolveTo, ResolvesWithinEight, CachelessSubLookup, IsCacheless, IsAsWithoutCache, AreAsWithoutCache, Headline}
+use Rattle.hickory_resolver_theorems.specs.Statements.{IsWhatItResolvesTo, AreWhatTheyResolveTo, AskedWithinEight, CachelessSubLookup, IsCacheless, IsAsWithoutCache, AreAsWithoutCache, Headline}
 use Rattle.hickory_resolver_theorems.proofs.Lists.{all-front, all-back, all-both, all-filter}
 use Rattle.hickory_resolver_theorems.proofs.Transparent.{transparent}
 use Rattle.hickory_resolver_theorems.proofs.Runs.{first_clauses}
@@ -34,7 +34,7 @@ pub record Seen (table : TableValue) (t : CallContext) : Type 0 where
 abbrev PartAlike : TableValue → CallContext → Bool → CacheValue → Query → SubLookup → CacheValue → Type 0
 PartAlike table t with_hosts c q p after = ((is_out_of_memory p.result ≡ true) ⊎ CachelessSubLookup table t with_hosts c q p c) × AreWhatTheyResolveTo table after
 
-part-alike : (table : TableValue) (t : CallContext) (with_hosts : Bool) (c before : CacheValue) (q : Query) (p : SubLookup) (after : CacheValue) → Seen table t → AreWhatTheyResolveTo table before → ResolvesWithinEight table p → AreConsistentWith table p.asks → IsAnsweredFor t with_hosts before q p after → PartAlike table t with_hosts c q p after
+part-alike : (table : TableValue) (t : CallContext) (with_hosts : Bool) (c before : CacheValue) (q : Query) (p : SubLookup) (after : CacheValue) → Seen table t → AreWhatTheyResolveTo table before → AskedWithinEight table p → AreConsistentWith table p.asks → IsAnsweredFor t with_hosts before q p after → PartAlike table t with_hosts c q p after
 part-alike table t with_hosts c before q p after seen meant has tells (for, is) = by p.source refl is
   where
     by : (source : Source) → p.source ≡ source → IsAnsweredFrom source t with_hosts before p after → PartAlike table t with_hosts c q p after
@@ -75,16 +75,16 @@ asks-all P (p ∷ ps) h = (all-front P p.asks (asks_of_sub_lookups ps) h, asks-a
 abbrev ServedAlike : TableValue → Settings → CacheValue → RequestValue → StepReply → CacheValue → Type 0
 ServedAlike table s c request reply after = ((ends_run reply ≡ true) ⊎ IsCacheless table s c request reply) × AreWhatTheyResolveTo table after
 
-pub call-alike : (table : TableValue) (s : Settings) (c before : CacheValue) (now : ℕ) (call : Call) (parts : List SubLookup) (reply : LookupResult) (after : CacheValue) → Seen table (call_context_at s now) → AreWhatTheyResolveTo table before → AllByRecursion (ResolvesWithinEight table) parts → AreConsistentWith table (asks_of_sub_lookups parts)
+pub call-alike : (table : TableValue) (s : Settings) (c before : CacheValue) (now : ℕ) (call : Call) (parts : List SubLookup) (reply : LookupResult) (after : CacheValue) → Seen table (call_context_at s now) → AreWhatTheyResolveTo table before → AllByRecursion (AskedWithinEight table) parts → AreConsistentWith table (asks_of_sub_lookups parts)
     → IsCall (IsAnsweredFor (call_context_at s now)) s before call parts reply after
     → ((is_out_of_memory reply ≡ true) ⊎ IsCall (CachelessSubLookup table (call_context_at s now)) s c call parts reply c) × AreWhatTheyResolveTo table after
 call-alike table s c before now call parts reply after seen meant has tells is =
     let t = call_context_at s now in
-    call-unless (IsAnsweredFor t) (CachelessSubLookup table t) (AreWhatTheyResolveTo table) (λ p. ResolvesWithinEight table p × AreConsistentWith table p.asks) (λ x. c)
+    call-unless (IsAnsweredFor t) (CachelessSubLookup table t) (AreWhatTheyResolveTo table) (λ p. AskedWithinEight table p × AreConsistentWith table p.asks) (λ x. c)
     (λ with_hosts mid q p next holds own answered. part-alike table t with_hosts c mid q p next seen holds own.0 own.1 answered) s before call parts reply after meant
-    (all-both (ResolvesWithinEight table) (λ p. AreConsistentWith table p.asks) parts has (asks-all (IsConsistentWith table) parts tells)) is
+    (all-both (AskedWithinEight table) (λ p. AreConsistentWith table p.asks) parts has (asks-all (IsConsistentWith table) parts tells)) is
 
-name-alike : (table : TableValue) (s : Settings) (c before : CacheValue) (text : List ℕ) (u : RecordType) (now : ℕ) (parts : List SubLookup) (reply : LookupResult) (after : CacheValue) → Seen table (call_context_at s now) → AreWhatTheyResolveTo table before → AllByRecursion (ResolvesWithinEight table) parts → AreConsistentWith table (asks_of_sub_lookups parts)
+name-alike : (table : TableValue) (s : Settings) (c before : CacheValue) (text : List ℕ) (u : RecordType) (now : ℕ) (parts : List SubLookup) (reply : LookupResult) (after : CacheValue) → Seen table (call_context_at s now) → AreWhatTheyResolveTo table before → AllByRecursion (AskedWithinEight table) parts → AreConsistentWith table (asks_of_sub_lookups parts)
     → IsServed (λ at. IsAnsweredFor (call_context_at s at)) s before (Lookup text u now) parts (LookedUp reply) after → ServedAlike table s c (Lookup text u now) (LookedUp reply) after
 name-alike table s c before text u now parts reply after seen meant has tells (inl (name, said, is)) = (by there.0, there.1)
   where
@@ -96,7 +96,7 @@ name-alike table s c before text u now parts reply after seen meant has tells (i
     by (inr alike) = inr (parts, reply, inl (name, said, alike), refl)
 name-alike table s c before text u now parts reply after seen meant has tells (inr (none, e, same)) = (inl (ap is_out_of_memory e), subst (AreWhatTheyResolveTo table) (sym same) meant)
 
-addresses-alike : (table : TableValue) (s : Settings) (c before : CacheValue) (text : List ℕ) (now : ℕ) (parts : List SubLookup) (reply : LookupResult) (after : CacheValue) → Seen table (call_context_at s now) → AreWhatTheyResolveTo table before → AllByRecursion (ResolvesWithinEight table) parts → AreConsistentWith table (asks_of_sub_lookups parts)
+addresses-alike : (table : TableValue) (s : Settings) (c before : CacheValue) (text : List ℕ) (now : ℕ) (parts : List SubLookup) (reply : LookupResult) (after : CacheValue) → Seen table (call_context_at s now) → AreWhatTheyResolveTo table before → AllByRecursion (AskedWithinEight table) parts → AreConsistentWith table (asks_of_sub_lookups parts)
     → IsServed (λ at. IsAnsweredFor (call_context_at s at)) s before (LookupIp text now) parts (LookedUpIp reply) after → ServedAlike table s c (LookupIp text now) (LookedUpIp reply) after
 addresses-alike table s c before text now parts reply after seen meant has tells (inl (given, said, is)) = (by there.0, there.1)
   where
@@ -119,7 +119,7 @@ pub clear-meant : (table : TableValue) (s : Settings) (before : CacheValue) (u :
 clear-meant table s before u (Ok n) after meant e = subst (AreWhatTheyResolveTo table) (sym e) (drop_each-meant table u (attempts s.search n) before meant)
 clear-meant table s before u (Err fault) after meant e = subst (AreWhatTheyResolveTo table) (sym e) meant
 
-served-alike : (table : TableValue) (s : Settings) (c before : CacheValue) (request : RequestValue) (parts : List SubLookup) (reply : StepReply) (after : CacheValue) → IsTable table → s.preserve_intermediates ≡ false → AreWhatTheyResolveTo table before → AllByRecursion (ResolvesWithinEight table) parts → AreConsistentWith table (asks_of_sub_lookups parts)
+served-alike : (table : TableValue) (s : Settings) (c before : CacheValue) (request : RequestValue) (parts : List SubLookup) (reply : StepReply) (after : CacheValue) → IsTable table → s.preserve_intermediates ≡ false → AreWhatTheyResolveTo table before → AllByRecursion (AskedWithinEight table) parts → AreConsistentWith table (asks_of_sub_lookups parts)
     → IsServed (λ now. IsAnsweredFor (call_context_at s now)) s before request parts reply after → ServedAlike table s c request reply after
 served-alike table s c before (Lookup text u now) parts (LookedUp reply) after apart off meant has tells is = name-alike table s c before text u now parts reply after (record { apart = apart; off = off }) meant has tells is
 served-alike table s c before (LookupIp text now) parts (LookedUpIp reply) after apart off meant has tells is = addresses-alike table s c before text now parts reply after (record { apart = apart; off = off }) meant has tells is
@@ -140,13 +140,13 @@ served-alike table s c before (Clear now) parts (Cleared (Err e)) after apart of
 
 -- ---- a run
 
-stage-alike : (table : TableValue) (s : Settings) (stage : Stage) (after : CacheValue) → IsTable table → s.preserve_intermediates ≡ false → AreWhatTheyResolveTo table stage.before → AllByRecursion (ResolvesWithinEight table) stage.parts → AreConsistentWith table stage.piece → IsStage s stage after → IsAsWithoutCache table s stage × AreWhatTheyResolveTo table after
+stage-alike : (table : TableValue) (s : Settings) (stage : Stage) (after : CacheValue) → IsTable table → s.preserve_intermediates ≡ false → AreWhatTheyResolveTo table stage.before → AllByRecursion (AskedWithinEight table) stage.parts → AreConsistentWith table stage.piece → IsStage s stage after → IsAsWithoutCache table s stage × AreWhatTheyResolveTo table after
 stage-alike table s stage after apart off meant has tells is =
     served-alike table s stage.before stage.before stage.request stage.parts stage.step.reply after apart off meant has (subst (AreConsistentWith table) is.piece_is tells) is.served
 
 -- a step after these, whatever comes after it
 stage-alike-after : (table : TableValue) (s : Settings) (before : CacheValue) (requests : List RequestValue) (earlier : List Stage) (stage : Stage) (later : List Stage) (after : CacheValue) → IsTable table → s.preserve_intermediates ≡ false → AreWhatTheyResolveTo table before
-    → AreConsistentWith table (exchanges_of (earlier ++ stage ∷ [])) → AllByRecursion (λ x. AllByRecursion (ResolvesWithinEight table) x.parts) (earlier ++ stage ∷ [])
+    → AreConsistentWith table (exchanges_of (earlier ++ stage ∷ [])) → AllByRecursion (λ x. AllByRecursion (AskedWithinEight table) x.parts) (earlier ++ stage ∷ [])
     → AreStages s before requests (earlier ++ stage ∷ later) after → IsAsWithoutCache table s stage
 stage-alike-after table s before [] [] stage later after apart off meant tells has are = absurd are
 stage-alike-after table s before [] (e ∷ es) stage later after apart off meant tells has are = absurd are

@@ -15,7 +15,7 @@ use Rattle.hickory_resolver_theorems.specs.Cores.{reply_core}
 use Rattle.hickory_resolver_theorems.specs.Covered.{Dated, dated_exchanges}
 use Rattle.hickory_resolver_theorems.specs.CallFacts.{KeepsWhatIsKnown}
 use Rattle.hickory_resolver_theorems.specs.Statements.{LeastTtlIsZero, IsFreshReply, IsFreshEntry, AreFreshEntries, IsWhatItResolvesTo, AreWhatTheyResolveTo}
-use Rattle.hickory_resolver_theorems.specs.Interleaved.{PendingValue, DoneValue, WorldValue, world_of, context_in, EventValue, Started, Fed, Dropped, ClearedOfAll, ClearedOf, Blocked, asks_with, caches_with, pending_after, done_after, IsBetween, Happens, Happen, ended_by, received_by, ended_in, received_in, MeansWithinEight, IsMeant, IsSeenBy, IsPromisedEnd, IsPromisedInterleaving}
+use Rattle.hickory_resolver_theorems.specs.Interleaved.{PendingValue, DoneValue, WorldValue, world_of, context_in, EventValue, Started, Fed, Dropped, ClearedOfAll, ClearedOf, Blocked, asks_with, caches_with, pending_after, done_after, IsBetween, Happens, Happen, ended_by, received_by, ended_in, received_in, DoneWithinEight, IsMeant, IsSeenBy, IsPromisedEnd, IsPromisedInterleaving}
 use Rattle.hickory_resolver_theorems.proofs.Lists.{all-weaker, all-append, all-front, all-back, all-has, has-all, has-left, has-right, has-map, ContainsByRecursion}
 use Rattle.hickory_resolver_theorems.proofs.Stores.{entries-more}
 use Rattle.hickory_resolver_theorems.proofs.Few.{few}
@@ -51,7 +51,7 @@ record IsGood (preserve : Bool) (received : List Dated) (ended : List DoneValue)
 
 seen-before : (table : TableValue) (preserve : Bool) (received more : List Dated) (ended others : List DoneValue) → IsSeenBy table preserve (received ++ more) (ended ++ others) → IsSeenBy table preserve received ended
 seen-before table preserve received more ended others (off, apart, tells, few) =
-    (off, apart, all-front (λ x. IsConsistentWith table x.exchange) received more tells, all-front (MeansWithinEight table) ended others few)
+    (off, apart, all-front (λ x. IsConsistentWith table x.exchange) received more tells, all-front (DoneWithinEight table) ended others few)
 
 -- those in flight stay so over a cache with the same bounds, whatever is received
 module _ (preserve : Bool) (before after : WorldValue) (received more : List Dated) (same : after.cache.config ≡ before.cache.config) where
@@ -96,8 +96,8 @@ end-good preserve received more ended before after d good own is = record {
     fresh : (LeastTtlIsZero before.cache.config (type_code d.question.query_type) → IsFreshReply before.cache.config (received ++ more) (type_code d.question.query_type) d.now d.result) × AreFreshEntries after.cache (received ++ more)
     fresh = fresh-within s d.caches d.question d.asks d.result after.cache (received ++ more) is (entries-more before.cache received more good.entries) own
 
-    own-meaning : (table : TableValue) → IsSeenBy table preserve (received ++ more) (ended ++ d ∷ []) → MeansWithinEight table d
-    own-meaning table (off, apart, tells, few) = (all-back (MeansWithinEight table) ended (d ∷ []) few).0
+    own-meaning : (table : TableValue) → IsSeenBy table preserve (received ++ more) (ended ++ d ∷ []) → DoneWithinEight table d
+    own-meaning table (off, apart, tells, few) = (all-back (DoneWithinEight table) ended (d ∷ []) few).0
 
     transparent : (table : TableValue) (seen : IsSeenBy table preserve (received ++ more) (ended ++ d ∷ [])) → ((d.result ≡ Err OutOfMemory) ⊎ (reply_core d.result ≡ (own-meaning table seen).0)) × AreWhatTheyResolveTo table after.cache
     transparent table seen =

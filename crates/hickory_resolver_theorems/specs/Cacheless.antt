@@ -1,6 +1,6 @@
 -- What a question means without a cache: by a table of outcomes alone, with no time, no store and no limit on
 -- hops.
-use Rattle.std.specs.Prelude.{◌≡◌, ℕ, suc, false, List, Some, None, Err}
+use Rattle.std.specs.Prelude.{◌≡◌, ◌≤◌, ℕ, suc, false, List, Some, None, Err}
 use Rattle.std.specs.List.{IsDistinct, AllByRecursion}
 use Rattle.std.specs.Map.{keys_of}
 use Rattle.hickory_proto_core.specs.Query.{query_eq}
@@ -40,6 +40,10 @@ pub data ResolvesTo (table : TableValue) : Query → ReplyCore → ℕ → Type 
       → special_use_result q 0 ≡ None → outcome_in q table ≡ Some outcome
       → verdict_on cacheless_context (first_hop q) (kind_of outcome) ≡ Some (LeadsTo next)
       → ResolvesTo table next.query reply n → ResolvesTo table q reply (suc n)
+
+-- a question means something, by eight questions at most, special names among them
+abbrev pub MeansWithinEight : TableValue → Query → Type 0
+MeansWithinEight table q = (reply : ReplyCore) × (n : ℕ) × ResolvesTo table q reply n × (n ≤ 8)
 
 -- the table has each question that was asked, with an outcome that agrees, out of memory aside
 abbrev pub IsConsistentWith : TableValue → Exchange → Type 0

@@ -22,7 +22,7 @@ use Rattle.hickory_resolver_theorems.specs.Aliases.{SubLookupOutlivesNoAlias}
 use Rattle.hickory_resolver_theorems.specs.Cacheless.{IsTable, AreConsistentWith}
 use Rattle.hickory_resolver_theorems.specs.Covered.{Dated, dated_exchanges}
 use Rattle.hickory_resolver_theorems.specs.Provenance.{is_source, dated_entry, stores_made}
-use Rattle.hickory_resolver_theorems.specs.Statements.{IsFreshEntry, AreFreshEntries, IsFreshSubLookup, HasFreshAnswers, AreWhatTheyResolveTo, ResolvesWithinEight, CachelessSubLookup}
+use Rattle.hickory_resolver_theorems.specs.Statements.{IsFreshEntry, AreFreshEntries, IsFreshSubLookup, HasFreshAnswers, AreWhatTheyResolveTo, AskedWithinEight, CachelessSubLookup}
 
 -- a call whose questions are answered in this way, or memory ran out before it
 abbrev pub IsCallBy : SubLookupRelation → Settings → CacheValue → Call → List SubLookup → LookupResult
@@ -104,7 +104,7 @@ abbrev pub IsTransparentCall : Settings → ℕ → CacheValue → Call → List
 IsTransparentCall s now before call parts reply after =
     (table : TableValue) → s.preserve_intermediates ≡ false → IsTable table
     → AreConsistentWith table (asks_of_sub_lookups parts) → AreWhatTheyResolveTo table before
-    → AllByRecursion (ResolvesWithinEight table) parts
+    → AllByRecursion (AskedWithinEight table) parts
     → ((reply ≡ Err OutOfMemory)
     ⊎ IsCall (CachelessSubLookup table (call_context_at s now)) s before call parts reply before)
     × AreWhatTheyResolveTo table after

@@ -10,11 +10,11 @@ use Rattle.hickory_resolver_model.specs.Lookup.{LookupResult}
 use Rattle.hickory_resolver_model.specs.Hosts.{Host}
 use Rattle.hickory_resolver_model.specs.Calls.{SubLookup, SubLookupRelation, is_out_of_memory}
 use Rattle.hickory_resolver_model.specs.Run.{Settings, Call, IsCall}
-use Rattle.hickory_resolver_theorems.specs.Cacheless.{ResolvesTo}
+use Rattle.hickory_resolver_theorems.specs.Cacheless.{MeansWithinEight}
 use Rattle.hickory_resolver_theorems.specs.CallFacts.{AreFreshReplies}
-use Rattle.hickory_resolver_theorems.specs.Cores.{ReplyCore, reply_core}
+use Rattle.hickory_resolver_theorems.specs.Cores.{reply_core}
 use Rattle.hickory_resolver_theorems.specs.Covered.{Dated}
-use Rattle.hickory_resolver_theorems.specs.Interleaved.{DoneValue, EventValue, ended_in, MeansWithinEight, IsSeenBy}
+use Rattle.hickory_resolver_theorems.specs.Interleaved.{DoneValue, EventValue, ended_in, DoneWithinEight, IsSeenBy}
 use Rattle.hickory_resolver_theorems.specs.InterleavedCalls.{DoneCallValue, CallWorldValue, call_world_of, call_context_over, CallEventValue, CallHappens, CallsHappen, calls_ended_by, calls_received_by, calls_received_in, StoodSince, IsQuestionOf, IsStartedIn, IsPromisedCallEnd, IsPromisedCallEvent}
 use Rattle.hickory_resolver_theorems.specs.Statements.{CachelessSubLookup}
 
@@ -44,11 +44,11 @@ IsOneCachelessCall table s empty hosts now call =
     → IsCall (CachelessSubLookupOver table s (hosts ∷ []) now) s empty call others b empty
     → is_out_of_memory a ≡ false → is_out_of_memory b ≡ false → reply_core a ≡ reply_core b
 
--- each question of the calls that were started among these events means something, by eight questions at most
-abbrev pub MeanWithinEight : TableValue → Settings → List CallEventValue → Type 0
-MeanWithinEight table s events =
+-- each question of the calls that were started among these events means something within eight
+abbrev pub StartedWithinEight : TableValue → Settings → List CallEventValue → Type 0
+StartedWithinEight table s events =
     (call : Call) (now : ℕ) (q : Query) → IsStartedIn events call now → IsQuestionOf s call q
-    → (reply : ReplyCore) × (n : ℕ) × ResolvesTo table q reply n × (n ≤ 8)
+    → MeansWithinEight table q
 
 -- The reply of a call that is done, with what was received up to then, for this call or another. It is made of
 -- sub-look-ups (`IsPromisedCallEnd`), of which each sent eight questions at most. It is an answer of the call's own (a
@@ -82,8 +82,8 @@ pub record IsPromisedCallReplyEvent
   pub replies : AllByRecursion
       (IsPromisedCallReplySince s empty first (events ++ event ∷ []) is.lookups
       (calls_received_in events ++ calls_received_by event)) (calls_ended_by event)
-  pub meant : (table : TableValue) → MeanWithinEight table s (events ++ event ∷ [])
-      → AllByRecursion (MeansWithinEight table) (ended_in is.lookups)
+  pub meant : (table : TableValue) → StartedWithinEight table s (events ++ event ∷ [])
+      → AllByRecursion (DoneWithinEight table) (ended_in is.lookups)
 
 -- Of every event, whatever came before it: so of each event of a list.
 abbrev pub ArePromisedCallReplies : Settings → CacheValue → List Host → Type 0

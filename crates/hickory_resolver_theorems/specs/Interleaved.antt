@@ -14,8 +14,8 @@ use Rattle.hickory_resolver_model.specs.Lookup.{LookupResult}
 use Rattle.hickory_resolver_model.specs.Hops.{LookupContext, IsReply, IsReplyOver}
 use Rattle.hickory_resolver_model.specs.Resuming.{WaitingValue, ProgressValue, Waits, IsDone, Starts, Resumes}
 use Rattle.hickory_resolver_theorems.specs.Aliases.{NoAliasOutlives}
-use Rattle.hickory_resolver_theorems.specs.Cacheless.{IsTable, ResolvesTo, IsConsistentWith}
-use Rattle.hickory_resolver_theorems.specs.Cores.{ReplyCore, reply_core}
+use Rattle.hickory_resolver_theorems.specs.Cacheless.{IsTable, MeansWithinEight, ResolvesTo, IsConsistentWith}
+use Rattle.hickory_resolver_theorems.specs.Cores.{reply_core}
 use Rattle.hickory_resolver_theorems.specs.Covered.{Dated, dated_exchanges}
 use Rattle.hickory_resolver_theorems.specs.Statements.{LeastTtlIsZero, IsFreshReply, AreFreshEntries, AreWhatTheyResolveTo}
 
@@ -140,9 +140,9 @@ received_in (event ∷ events) = received_by event ++ received_in events
 
 -- ---- what is promised
 
--- a question means something, by eight questions at most
-abbrev pub MeansWithinEight : TableValue → DoneValue → Type 0
-MeansWithinEight table d = (reply : ReplyCore) × (n : ℕ) × ResolvesTo table d.question reply n × (n ≤ 8)
+-- the question of a look-up that is done means something within eight
+abbrev pub DoneWithinEight : TableValue → DoneValue → Type 0
+DoneWithinEight table d = MeansWithinEight table d.question
 
 -- the result is what the question means, or out of memory
 abbrev pub IsMeant : TableValue → DoneValue → Type 0
@@ -153,7 +153,7 @@ IsMeant table d =
 abbrev pub IsSeenBy : TableValue → Bool → List Dated → List DoneValue → Type 0
 IsSeenBy table preserve received ended =
     (preserve ≡ false) × IsTable table × AllByRecursion (λ x. IsConsistentWith table x.exchange) received
-    × AllByRecursion (MeansWithinEight table) ended
+    × AllByRecursion (DoneWithinEight table) ended
 
 -- A look-up that an event ended, from one world to the next, with what was received up to then and the look-ups that
 -- ended up to then, its own among both. It comes to what the hops of its question say, each over the cache that stood

@@ -19,7 +19,7 @@ use Rattle.hickory_resolver_model.specs.Hops.{LookupContext}
 use Rattle.hickory_resolver_model.specs.Hosts.{NotInHosts}
 use Rattle.hickory_resolver_model.specs.Calls.{SubLookup, SubLookupRelation, CallContext, Client, IsAnsweredByHosts, is_out_of_memory, literal_at_once, last_resort}
 use Rattle.hickory_resolver_model.specs.Run.{Settings, call_context_at, RequestValue, LookupIp, StepValue, StepReply, LookedUp, LookedUpIp, Cleared, ends_run, IsServed, Stage, exchanges_of, Run}
-use Rattle.hickory_resolver_theorems.specs.Cacheless.{IsTable, ResolvesTo, AreConsistentWith}
+use Rattle.hickory_resolver_theorems.specs.Cacheless.{IsTable, MeansWithinEight, ResolvesTo, AreConsistentWith}
 use Rattle.hickory_resolver_theorems.specs.Cores.{ReplyCore, reply_core, entry_core}
 use Rattle.hickory_resolver_theorems.specs.Covered.{Dated, dated_exchanges, IsCovered, IsLoopback}
 
@@ -162,10 +162,9 @@ NothingOutlives earlier (stage ∷ stages) =
     AllByRecursion (IsFreshSubLookup stage.before.config (λ code. sources) stage.step.now) stage.parts
     × AreFreshAnswers stage.before.config sources stage stage.step.reply × NothingOutlives sources stages
 
--- a question of the client has a meaning of eight questions at most
-abbrev pub ResolvesWithinEight : TableValue → SubLookup → Type 0
-ResolvesWithinEight table p =
-    p.source ≡ Client → (reply : ReplyCore) × (n : ℕ) × ResolvesTo table p.question reply n × (n ≤ 8)
+-- a question that the client was asked means something within eight
+abbrev pub AskedWithinEight : TableValue → SubLookup → Type 0
+AskedWithinEight table p = p.source ≡ Client → MeansWithinEight table p.question
 
 -- how the resolver without a cache answers a question: by the table of hosts, as any, or by the meaning of
 -- the question
@@ -230,7 +229,7 @@ AreAsWithoutCache s stages =
     (earlier : List Stage) (stage : Stage) (later : List Stage) → stages ≡ earlier ++ stage ∷ later
     → (table : TableValue) → s.preserve_intermediates ≡ false → IsTable table
     → AreConsistentWith table (exchanges_of (earlier ++ stage ∷ []))
-    → AllByRecursion (λ x. AllByRecursion (ResolvesWithinEight table) x.parts) (earlier ++ stage ∷ [])
+    → AllByRecursion (λ x. AllByRecursion (AskedWithinEight table) x.parts) (earlier ++ stage ∷ [])
     → IsAsWithoutCache table s stage
 
 -- From a new resolver, over every run, each attempt at one name and type sends at most 8 questions; where the asked
