@@ -297,9 +297,11 @@ module _ (hosts J B : List ℕ) (ls : List (List ℕ)) (said : List Line) (reade
       record {
         said = said;
         read = (subst (λ xs. AreRead [] xs (Ok said)) (sym (lines-whole ls script.allowed) ∙ ap lines (sym journal_is)) script.read, ap (λ c. bounds_fault (bounds_of c.options)) (sym conf) ∙ up.bounds);
-        table = up.table;
-        hosts_are = subst (λ n. IsTable n hosts up.table) (sym first_is ∙ ap first_moment requests) up.hosts_are;
-        told = subst T (sym straight) told;
+        told = record {
+          table = up.table;
+          hosts_are = subst (λ n. IsTable n hosts up.table) (sym first_is ∙ ap first_moment requests) up.hosts_are;
+          told = subst T (sym straight) told;
+        };
       }
 
 finish : (hosts J B : List ℕ) (latest : ℕ) (phase : Phase) (held : Option InFlightValue) → StandsAt hosts J B (Idle latest) phase held → CanServe phase → IsReplayed J hosts B

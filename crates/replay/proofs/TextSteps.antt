@@ -1,11 +1,10 @@
 -- The text of a run, step by step, and why there is no table of hosts.
 use Rattle.std.proofs.Common.{◌≡◌, ◌∙◌, ℕ, Bool, true, false, not, MatchBool, List, [], ◌∷◌}
-use Rattle.std.proofs.Common.{◌++◌, take, drop, map, Result, Ok, Err, IfErr, IfOk, IsErrAnd, String, string_bytes}
+use Rattle.std.proofs.Common.{◌++◌, take, drop, map, Result, Ok, Err, IfErr, IfOk, String, string_bytes}
 use Rattle.std.proofs.Common.{refl, sym, ap, subst, inl, inr, append_assoc}
 use Rattle.std.proofs.lemmas.Bool.{and_from}
 use Rattle.std.proofs.lemmas.List.{append-nil}
 use Rattle.hickory_proto_core.specs.Handles.{OutcomeValue, HandleStep, RecordedValue, ScriptStep}
-use Rattle.hickory_proto_core.specs.Table.{TableValue, TableStep, last_given, outcome_in}
 use Rattle.hickory_proto_core.specs.declared.query.Query.{Query}
 use Rattle.hickory_resolver_config.specs.ResolverConfig.{ResolverConfigValue, OptionsValue}
 use Rattle.hickory_proto_core.specs.declared.recorded.Exchange.{Exchange}
@@ -19,12 +18,11 @@ use Rattle.hickory_resolver.specs.Listening.{Hears, HearsAll}
 use Rattle.hickory_resolver.specs.Transcripts.{NewRun}
 use Rattle.replay.specs.Hearing.{AddsBlock}
 use Rattle.replay_script.specs.Output.{run_text, step_text}
-use Rattle.replay.specs.ScriptRun.{IsNoTable, IsRefused, IsReplayed, IsScriptTold, IsTable, IsTableTold, IsTextOfRun}
-use Rattle.replay.specs.ScriptRun.{first_moment, hosts_fault, is_remembered}
+use Rattle.replay.specs.ScriptRun.{IsBroken, IsNoTable, IsRefused, IsScriptTold, IsTableTold}
+use Rattle.replay.specs.ScriptRun.{IsTextOfRun, first_moment, hosts_fault, is_remembered}
 use Rattle.replay_script.specs.Script.{IsWholeScript, ScriptValue, config_of, script_of}
 use Rattle.replay_script.specs.declared.line.Line.{Line}
 use Rattle.replay.specs.declared.error.ReplayError.{ReplayError}
-use Rattle.replay.specs.declared.error.ReplayError.TheVariants.{Memory}
 
 -- what a listener hears of that adds the block of each step to its text
 module _ {L : Type 0} (text : L → List ℕ) (hears : Hears L)
@@ -99,21 +97,6 @@ module _ (script : ScriptValue) (hosts : List Host) (config : ResolverConfigValu
   settings_are : settings_of config options hosts ≡ settings_of (config_of script) script.options hosts
   settings_are = λ i. settings_of (config_is i) (options_are i) hosts
 
-  -- over a table
-  pub told_by_table : {Z E : Type 0} (result : Result (String Z) E) (table : TableValue) → script.table ≡ true
-      → ((q : Query) → outcome_in q table ≡ last_given q outcomes)
-      → IfOk result (λ text. IsTextOfRun TableStep (settings_of config options hosts) table requests (string_bytes text))
-      → IfOk result (λ text. IsScriptTold script hosts (string_bytes text))
-  told_by_table (Ok text) table in_table given told =
-      let s = settings_of (config_of script) script.options hosts in
-      let S : Settings → Type 0 = λ x. IsTableTold x outcomes requests (string_bytes text) in
-      let A : List (Query × OutcomeValue) → Type 0 = λ os. IsTableTold s os requests (string_bytes text) in
-      let R : List RequestValue → Type 0 = λ rs. IsTableTold s script.outcomes rs (string_bytes text) in
-      let T : Bool → Type 0 = λ b. MatchBool b (IsTableTold s script.outcomes script.requests (string_bytes text))
-      (IsTextOfRun ScriptStep s (map (λ o. o.1) script.outcomes) script.requests (string_bytes text)) in
-      subst T (sym in_table) (subst R requests_are (subst A outcomes_are (subst S settings_are (table, given, told))))
-  told_by_table (Err error) table in_table given told = tt
-
   -- over outcomes that are answered in order
   pub told_in_order : {Z E : Type 0} (result : Result (String Z) E) (answered : List OutcomeValue) → script.table
       ≡ false → answered ≡ map (λ o. o.1) outcomes
@@ -131,26 +114,12 @@ module _ (script : ScriptValue) (hosts : List Host) (config : ResolverConfigValu
       subst T (sym in_order) (subst R requests_are (subst A outcomes_are (subst S settings_are (subst U answered_are told))))
   told_in_order (Err error) answered in_order answered_are told = tt
 
--- the text of a script that was read whole
-pub replayed : {Z E : Type 0} (script hosts : List ℕ) (said : List Line) (read : ScriptValue) (now : ℕ)
-    (table : List Host) (result : Result (String Z) E)
-    → IsWholeScript script said → read ≡ script_of said → now ≡ first_moment read.requests → IsTable now hosts table
-    → IfOk result (λ text. IsScriptTold read table (string_bytes text))
-    → IfOk result (λ text. IsReplayed script hosts (string_bytes text))
-replayed script hosts said read now table (Ok text) whole read_is now_is hosts_are told =
-    let N : ℕ → Type 0 = λ n. IsTable n hosts table in
-    let P : ScriptValue → Type 0 = λ s. IsScriptTold s table (string_bytes text) in
-    record {
-      said = said;
-      read = whole;
-      table = table;
-      hosts_are = subst N (now_is ∙ ap (λ s. first_moment s.requests) read_is) hosts_are;
-      told = subst P read_is told;
-    }
-replayed script hosts said read now table (Err error) whole read_is now_is hosts_are told = tt
-
--- an error that was handed on, of a step that only runs out of memory
-pub ran_out : {A : Type 0} (script hosts : List ℕ) (error : ReplayError) (result : Result A ReplayError)
-    → IsErrAnd result (λ e. e ≡ error) → error ≡ Memory → IfErr result (IsRefused script hosts)
-ran_out script hosts error (Ok value) handed_on out = tt
-ran_out script hosts error (Err e) handed_on out = inl (handed_on ∙ out)
+-- no text of a script that was read whole
+pub refused : {A : Type 0} (script hosts : List ℕ) (said : List Line) (read : ScriptValue) (result : Result A ReplayError)
+    → IsWholeScript script said → read ≡ script_of said
+    → IfErr result (IsNoTable (first_moment read.requests) hosts) → IfErr result (IsRefused script hosts)
+refused script hosts said read (Ok value) whole read_is none = tt
+refused script hosts said read (Err error) whole read_is (inl out) = inl out
+refused script hosts said read (Err error) whole read_is (inr broken) =
+    let P : ScriptValue → Type 0 = λ s. IsBroken (first_moment s.requests) hosts error in
+    inr (inr (said, whole, subst P read_is broken))

@@ -73,13 +73,17 @@ IsBroken now hosts error =
 abbrev pub IsNoTable : ℕ → List ℕ → ReplayError → Type 0
 IsNoTable now hosts error = (error ≡ Memory) ⊎ IsBroken now hosts error
 
+-- over what a file of hosts says, read at the moment of the first request
+pub record IsToldOver (script : ScriptValue) (hosts text : List ℕ) : Type 0 where
+  pub table : List Host
+  pub hosts_are : IsTable (first_moment script.requests) hosts table
+  pub told : IsScriptTold script table text
+
 -- the text of a run of what the lines of the script say, over what a file of hosts says
 pub record IsReplayed (script hosts text : List ℕ) : Type 0 where
   pub said : List Line
   pub read : IsWholeScript script said
-  pub table : List Host
-  pub hosts_are : IsTable (first_moment (script_of said).requests) hosts table
-  pub told : IsScriptTold (script_of said) table text
+  pub told : IsToldOver (script_of said) hosts text
 
 -- a script that cannot be read, or out of memory
 abbrev pub replay_fault : ScriptFault → ScriptError → ReplayError

@@ -6,7 +6,7 @@ ghost use Rattle.hickory_resolver.specs.Requests.{request_of};
 ghost use Rattle.hickory_resolver_model.specs.Bounds.{bounds_fault};
 ghost use Rattle.hickory_resolver_model.specs.Options.{bounds_of};
 ghost use Rattle.hickory_resolver_model.specs.Run.{settings_of};
-ghost use Rattle.replay.specs.ScriptRun.{IsNoTable, IsRefused, IsReplayed, IsTable, IsTextOfRun, first_moment};
+ghost use Rattle.replay.specs.ScriptRun.{IsNoTable, IsRefused, IsReplayed, IsScriptTold, IsTable, IsTextOfRun, IsToldOver, first_moment};
 
 use crate::error::ReplayError;
 use crate::text_listener::TextListener;
@@ -24,40 +24,19 @@ pub fn replay_text(alloc: Global, script: &[u8], hosts: &[u8]) -> Result<String,
     ensures err { IfErr result (IsRefused script.now hosts.now) }
 {
     let cache_hasher: BuildHasherDefault<FoldHasher> = BuildHasherDefault::new();
-    replay_text_with_hasher(
-        alloc,
-        script,
-        hosts,
-        cache_hasher,
-        BuildHasherDefault::new(),
-    )
-}
-
-/// As `replay_text`; names of questions in the cache are hashed by one hasher, and those of the hosts by the
-/// other.
-pub fn replay_text_with_hasher<S: BuildHasher + Drop>(
-    alloc: Global,
-    script: &[u8],
-    hosts: &[u8],
-    cache_hasher: S,
-    hosts_hasher: S,
-) -> Result<String, ReplayError>
-    ensures ok { IfOk result (λ text. IsReplayed script.now hosts.now (string_bytes text)) }
-    ensures err { IfErr result (IsRefused script.now hosts.now) }
-{
     let table_hasher: BuildHasherDefault<FoldHasher> = BuildHasherDefault::new();
     replay_text_with_hashers(
         alloc,
         script,
         hosts,
         cache_hasher,
-        hosts_hasher,
+        BuildHasherDefault::new(),
         table_hasher,
     )
 }
 
-/// As `replay_text_with_hasher`; where the script's outcomes are a table, its questions are hashed by the third
-/// hasher.
+/// As `replay_text`; names of questions in the cache are hashed by the first hasher, those of the hosts by the
+/// second, and where the script's outcomes are a table, its questions by the third.
 pub fn replay_text_with_hashers<S: BuildHasher + Drop, T: BuildHasher + Drop>(
     alloc: Global,
     script: &[u8],
@@ -69,8 +48,43 @@ pub fn replay_text_with_hashers<S: BuildHasher + Drop, T: BuildHasher + Drop>(
     ensures ok { IfOk result (λ text. IsReplayed script.now hosts.now (string_bytes text)) }
     ensures err { IfErr result (IsRefused script.now hosts.now) }
 {
-    let script = read_script(alloc, script)?;
-    let hosts = read_table(alloc, hosts, first_moment(&script.requests), hosts_hasher)?;
+    match read_script(alloc, script) {
+        Ok(script) => text_of_script(script, hosts, cache_hasher, hosts_hasher, table_hasher),
+        Err(fault) => Err(ReplayError::from(fault)),
+    }
+}
+
+// The text of a run of what a script says over what a file of hosts says.
+fn text_of_script<S: BuildHasher + Drop, T: BuildHasher + Drop>(
+    script: Script,
+    hosts: &[u8],
+    cache_hasher: S,
+    hosts_hasher: S,
+    table_hasher: T,
+) -> Result<String, ReplayError>
+    requires { bounds_fault (bounds_of script.options) ≡ None }
+    ensures ok { IfOk result (λ text. IsToldOver script hosts.now (string_bytes text)) }
+    ensures err { IfErr result (IsNoTable (first_moment script.requests) hosts.now) }
+{
+    let alloc = *script.search.allocator();
+    let now = first_moment(&script.requests);
+    match read_table(alloc, hosts, now, hosts_hasher) {
+        Ok(hosts) => text_over_table(script, hosts, cache_hasher, table_hasher),
+        Err(error) => Err(error),
+    }
+}
+
+// The text of a run of what a script says over a table of hosts.
+fn text_over_table<S: BuildHasher + Drop, T: BuildHasher + Drop>(
+    script: Script,
+    hosts: Hosts<S>,
+    cache_hasher: S,
+    table_hasher: T,
+) -> Result<String, ReplayError>
+    requires { bounds_fault (bounds_of script.options) ≡ None }
+    ensures ok { IfOk result (λ text. IsScriptTold script hosts (string_bytes text)) }
+    ensures err { IsOkUnless result ReplayError.Memory }
+{
     let Script {
         table,
         outcomes,
@@ -79,13 +93,21 @@ pub fn replay_text_with_hashers<S: BuildHasher + Drop, T: BuildHasher + Drop>(
         domain,
         search,
     } = script;
+    let alloc = *search.allocator();
     let config = ResolverConfig::from_parts(domain, search, Vec::new(alloc));
     if table {
-        let upstream = table_of(outcomes, table_hasher)?;
-        text_of_run(config, options, hosts, upstream, &requests, cache_hasher)
+        match table_of(outcomes, table_hasher) {
+            Ok(upstream) => text_of_run(config, options, hosts, upstream, &requests, cache_hasher),
+            Err(error) => Err(error),
+        }
     } else {
-        let upstream = ScriptHandle::new(without_questions(alloc, outcomes)?);
-        text_of_run(config, options, hosts, upstream, &requests, cache_hasher)
+        match without_questions(alloc, outcomes) {
+            Ok(outcomes) => {
+                let upstream = ScriptHandle::new(outcomes);
+                text_of_run(config, options, hosts, upstream, &requests, cache_hasher)
+            }
+            Err(_) => Err(ReplayError::Memory),
+        }
     }
 }
 

@@ -23,18 +23,17 @@ pub fn replay<W: Write>(
     ensures { IsReplay script.now (given_hosts hosts.entry) (W.contents writer.old.inner)
         (W.contents writer.new.inner) result writer.new.failed }
 {
-    let given = hosts_bytes(hosts);
     let cache_hasher: BuildHasherDefault<FoldHasher> = BuildHasherDefault::new();
     let table_hasher: BuildHasherDefault<FoldHasher> = BuildHasherDefault::new();
-    let whole = replay_text_with_hashers(
+    replay_with_hashers(
         alloc,
         script,
-        given,
+        hosts,
+        writer,
         cache_hasher,
         BuildHasherDefault::new(),
         table_hasher,
-    )?;
-    write_whole(writer, whole.as_bytes())
+    )
 }
 
 /// As `replay`; names of questions in the cache are hashed by one hasher, and those of the hosts by the other.
