@@ -1,5 +1,5 @@
 //! Sessions are opened.
-ghost use Rattle.std.specs.Prelude.{◌≡◌, None, length};
+ghost use Rattle.std.specs.Prelude.{◌≡◌, IfOk, None, length};
 ghost use Rattle.resolv_conf.specs.ResolvConf.{resolv_conf};
 ghost use Rattle.yimarotu_c.specs.Openings.{IsSessionKept, Opens, OpensDriven, OpensFed, OpensSeeded, network_error, open_end, open_error, settings_error};
 ghost use Rattle.yimarotu_session.specs.FileSettings.{IsOpenedWith};
@@ -9,7 +9,7 @@ ghost use Rattle.yimarotu_session.specs.Opening.{IsOpened};
 use crate::sessions::{YimarotuOpened, YimarotuSession, put};
 use crate::status::Status;
 use session_settings::SettingsError;
-use std::alloc::Global;
+use std::alloc::{AllocError, Global};
 use yimarotu_embedded::{DrivenSession, Held, NetworkOpenError};
 use yimarotu_session::{OpenError, Session};
 
@@ -110,13 +110,20 @@ fn keep(alloc: Global, session: &mut YimarotuSession, held: Held) -> YimarotuOpe
     requires { session.old.inside.value ≡ None }
     ensures { IsSessionKept held result session.new.inside.value }
 {
-    match Box::new(alloc, held) {
+    match boxed(alloc, held) {
         Ok(inside) => {
             put(session, inside);
             ended(Status::Ok, 0)
         }
-        Err(_) => ended(Status::NoMemory, 0),
+        Err(AllocError) => ended(Status::NoMemory, 0),
     }
+}
+
+// For any type: of one that is known the drop of what is refused would be taken apart.
+fn boxed<T: Drop>(alloc: Global, value: T) -> Result<Box<T>, AllocError>
+    ensures { IfOk result (λ inside. inside.value ≡ value) }
+{
+    Ok(Box::new(alloc, value)?)
 }
 
 fn refused(error: OpenError) -> YimarotuOpened

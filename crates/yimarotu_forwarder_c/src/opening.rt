@@ -1,5 +1,5 @@
 //! Forwarders are opened, and read anew.
-ghost use Rattle.std.specs.Prelude.{◌≡◌, None};
+ghost use Rattle.std.specs.Prelude.{◌≡◌, IfOk, None};
 ghost use Rattle.yimarotu_driven_forwarder.specs.Texts.{texts_of};
 ghost use Rattle.yimarotu_forwarder_c.specs.Calls.{OnOpen};
 ghost use Rattle.yimarotu_forwarder_c.specs.Openings.{IsKept, Opens, OpensFrom, OpensSeeded, Reloads, open_end, open_error, reloaded_end, settings_error};
@@ -8,7 +8,7 @@ ghost use Rattle.yimarotu_forwarder_c.specs.declared.status.Status.TheVariants a
 use crate::forwarders::{YimarotuForwarder, put, take};
 use crate::status::Status;
 use forwarder_settings::SettingsError;
-use std::alloc::Global;
+use std::alloc::{AllocError, Global};
 use yimarotu_driven_forwarder::{DrivenForwarder, ForwarderOpenError, Texts};
 
 /// How the opening of a forwarder ended.
@@ -89,13 +89,20 @@ fn keep(alloc: Global, forwarder: &mut YimarotuForwarder, inside: DrivenForwarde
     requires { forwarder.old.inside.value ≡ None }
     ensures { IsKept inside result forwarder.new.inside.value }
 {
-    match Box::new(alloc, inside) {
+    match boxed(alloc, inside) {
         Ok(inside) => {
             put(forwarder, inside);
             ended(Status::Ok, 0)
         }
-        Err(_) => ended(Status::NoMemory, 0),
+        Err(AllocError) => ended(Status::NoMemory, 0),
     }
+}
+
+// For any type: of one that is known the drop of what is refused would be taken apart.
+fn boxed<T: Drop>(alloc: Global, value: T) -> Result<Box<T>, AllocError>
+    ensures { IfOk result (λ inside. inside.value ≡ value) }
+{
+    Ok(Box::new(alloc, value)?)
 }
 
 /// Reads the files and the settings anew, at a moment (milliseconds).
