@@ -11,7 +11,8 @@
  * frees none. No pointer may be null, not even where its length is 0. A length is at most PTRDIFF_MAX. A room overlaps
  * nothing else that the call is given. A moment is in milliseconds, from whatever start the program takes, of a clock that
  * does not go back and counts while the machine sleeps (CLOCK_BOOTTIME): else answers are used for longer than they were
- * received for. Answers count whole seconds.
+ * received for. When the machine woke the moment is told first (yimarotu_tick), and what lies in sockets is let go, since
+ * TTLs count from the moment at which octets are handed in. Answers count whole seconds.
  *
  * Each call is proved to be safe and to return, as long as the program keeps to this page; where memory runs out it says
  * so. The library takes memory by the malloc and realloc of the program, and gives it back by its free. What a session

@@ -18,6 +18,8 @@ CLIENTS, RELOADS = 6, 20
 MOST_TO_BEGIN = 1
 # For how many milliseconds a machine sleeps, which is longer than any answer lives here, or any question waits.
 NIGHT, LIFE = 8 * 3600 * 1000, 3600
+# For how many milliseconds it sleeps while a question is still waited for, and for how many a failure is kept.
+NAP, FAILED = 20_000, 60_000
 # More connections than the program hears of at a time, and for how many milliseconds it stands still: for longer than one
 # may be idle.
 CONNECTIONS, STALL = 200, 15_000
@@ -123,18 +125,27 @@ def killed(cases, daemon):
 
 
 class Machine:
-    """A machine whose clock goes on while it sleeps: sleeping.so tells the program so."""
+    """A machine whose clock goes on while it sleeps, and which may be slow: sleeping.so tells the program so."""
 
     def __init__(self, folder, library):
         self._file = folder / f"slept{time.monotonic_ns()}"
-        self._file.write_bytes(bytes(8))
+        self._slept = self._late = 0
+        self._tell()
         self.environment = {**os.environ, "LD_PRELOAD": str(library), "SLEPT": str(self._file)}
 
     def sleep(self, milliseconds):
+        self._slept += milliseconds
+        self._tell()
+
+    def accept_late(self, milliseconds):
+        """From now on it gives each connection so late."""
+        self._late = milliseconds
+        self._tell()
+
+    def _tell(self):
+        self._file.touch()
         with self._file.open("r+b", buffering=0) as file:
-            (slept,) = struct.unpack("@Q", file.read(8))
-            file.seek(0)
-            file.write(struct.pack("@Q", slept + milliseconds))
+            file.write(struct.pack("@QQ", self._slept, self._late))
 
 
 def slept(cases, daemon):
@@ -228,4 +239,39 @@ def stale(cases, daemon):
             cases.equal(f"{line}: what ran out, of a server that is silent", found, wanted)
 
 
-ALL = (under_load, killed, slept, stalled, stale)
+def left_in_socket(cases, daemon):
+    """A reply that came while the machine slept is not used, though it was still waited for: its TTL would count from when
+    it woke."""
+    if daemon.name.endswith(".sanitized"):
+        return
+    machine = Machine(daemon.folder, daemon.program.parent / "sleeping.so")
+    with contextlib.ExitStack() as stack:
+        sock = stack.enter_context(bounds.datagrams())
+        sock.bind(("127.0.0.1", 0))
+        upstream = bounds.Upstream(sock)
+        lines = [f"server {upstream.text} udp", "option timeout 30", "option attempts 0"]
+        running = stack.enter_context(daemon.running(*lines, env=machine.environment))
+        client = stack.enter_context(asking.datagrams(running.port))
+        client.send(asking.query("late.example.test", id=7).to_wire())
+        asked = upstream.hear()
+        with running.stopped():
+            upstream.answer(asked, (LIFE, "IN", "A", "192.0.2.1"))
+            machine.sleep(NAP)
+        # (it goes on, and then time ends what waits)
+        asking.by_udp(running.port, "localhost")
+        machine.sleep(NAP)
+        asking.by_udp(running.port, "localhost")
+        reply = dns.message.from_wire(client.recv(512))
+        cases.equal("what is told of a reply that came while it slept", (reply.id, asking.addresses(reply)), (7, "SERVFAIL"))
+        # (for longer than the failure is kept)
+        machine.sleep(2 * FAILED)
+        client.send(asking.query("late.example.test", id=8).to_wire())
+        asked = upstream.hear_of("late.example.test.", SECONDS)
+        cases.tell("it is asked for anew", asked is not None, asked)
+        if asked is not None:
+            upstream.answer(asked, (60, "IN", "A", "192.0.2.2"))
+            reply = dns.message.from_wire(client.recv(512))
+            cases.equal("what is told when it woke", (reply.id, asking.addresses(reply)), (8, ["192.0.2.2"]))
+
+
+ALL = (under_load, killed, slept, stalled, stale, left_in_socket)

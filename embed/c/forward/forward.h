@@ -109,6 +109,7 @@ void open_channel(const yimarotu_action *open);
 void send_on_channel(uint64_t number, const uint8_t *octets, size_t length);
 void close_channel(uint64_t number);
 void on_channel(uint64_t number, uint32_t events);
+void let_go_of_what_came(void); /* to channels, while the program stood still */
 bool has_untold_failures(void); /* of channels, for which the library had no memory */
 void tell_failures_again(void);
 void close_channels(void);

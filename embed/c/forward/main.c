@@ -20,7 +20,7 @@
 #include <time.h>
 #include <unistd.h>
 
-enum { WITHOUT_MEMORY = 50 }; /* milliseconds */
+enum { WITHOUT_MEMORY = 50, STILL = 10 * SECOND }; /* milliseconds */
 enum { ENDED = 0, FAULTS = 1, USAGE = 2, WANTING = 3, NOT_CONFINED = 4, UNFIT = 5 }; /* how the program ends */
 
 yimarotu_forwarder forwarder = YIMAROTU_FORWARDER;
@@ -37,12 +37,14 @@ static int epoll, signals = -1;
 static int read_by_one = -1; /* of many processes: an eventfd, which tells their parent that one read the files again */
 static bool is_paused, is_ended, lacks_memory;
 
-/* By a clock that counts while the machine sleeps: else answers would be used for longer than they may be. */
-static uint64_t now(void) {
+static uint64_t milliseconds_by(clockid_t clock) {
     struct timespec time;
-    clock_gettime(CLOCK_BOOTTIME, &time);
+    clock_gettime(clock, &time);
     return (uint64_t)time.tv_sec * 1000 + (uint64_t)time.tv_nsec / 1000000;
 }
+
+/* By a clock that counts while the machine sleeps: else answers would be used for longer than they may be. */
+static uint64_t now(void) { return milliseconds_by(CLOCK_BOOTTIME); }
 
 /* ---- what is watched */
 
@@ -126,12 +128,31 @@ static void hear_datagrams(void) {
         if (!own->at[at].is_stream) on_datagrams(own->at[at].fd), act();
 }
 
+/* Whether the machine slept since it was asked last, or the program could not run for long, by when it was to go on. */
+static bool stood_still(uint64_t due) {
+    static int64_t asleep;
+    int64_t before = asleep;
+    asleep = (int64_t)(moment - milliseconds_by(CLOCK_MONOTONIC));
+    return asleep >= before + SECOND || moment >= due + STILL;
+}
+
+/* The TTLs of replies that came meanwhile would count from now: those that are still waited for are let go, too. */
+static void wake(void) {
+    yimarotu_forwarder_tick(&forwarder, moment);
+    act();
+    let_go_of_what_came();
+    act();
+}
+
 static void serve(void) {
     struct epoll_event events[BATCH];
     uint64_t looked_at = 0;
     while (!is_ended) {
-        int count = epoll_wait(epoll, events, BATCH, wait_time());
+        int wait = wait_time();
+        uint64_t due = now() + (uint64_t)wait;
+        int count = epoll_wait(epoll, events, BATCH, wait);
         moment = now();
+        if (stood_still(due)) wake();
         for (int at = 0; at < count; at++) moment = now(), on_event(&events[at]), act();
         if (count == BATCH) hear_datagrams();
         tell_failures_again();

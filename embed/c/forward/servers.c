@@ -9,8 +9,9 @@
 #include <string.h>
 #include <unistd.h>
 
-/* So many octets wait to be sent on a stream at the most, and so many failures to be told. */
-enum { BUCKETS = 1024, MOST_KEPT = 1 << 21, MOST_UNTOLD = 256 };
+/* So many octets wait to be sent on a stream at the most, and so many failures to be told. So many datagrams of a socket
+ * are let go at once, more than it holds. */
+enum { BUCKETS = 1024, MOST_KEPT = 1 << 21, MOST_UNTOLD = 256, MOST_LET_GO = 4096 };
 
 struct channel {
     uint64_t number;
@@ -157,11 +158,25 @@ static void receive(struct channel *channel) {
     if (status == YIMAROTU_NO_MEMORY && channel->is_stream) fail(channel, why_failed(ENOMEM));
 }
 
+/* Takes a datagram, or an error, away; gives whether there was one. */
+static bool has_datagram(const struct channel *channel) {
+    return recv(channel->fd, room, sizeof room, 0) >= 0 || (errno != EAGAIN && errno != EINTR);
+}
+
 void on_channel(uint64_t number, uint32_t events) {
     struct channel *channel = *link_of(number);
     if (channel == NULL || channel->has_failed) return;
     if (events & ~(uint32_t)EPOLLOUT) receive(channel);
     else send_kept(channel);
+}
+
+/* Datagrams are read and not looked at. Of a stream it is not known what came by when: it is closed. */
+void let_go_of_what_came(void) {
+    for (size_t at = 0; at < BUCKETS; at++)
+        for (struct channel *channel = channels[at]; channel != NULL; channel = channel->next) {
+            if (channel->is_stream && !channel->has_failed) fail(channel, why_failed(0));
+            for (int turn = 0; !channel->is_stream && turn < MOST_LET_GO && has_datagram(channel); turn++);
+        }
 }
 
 void close_channel(uint64_t number) {

@@ -8,7 +8,10 @@ import socket
 import struct
 import threading
 import time
+import unittest.mock
 from dataclasses import dataclass
+
+from yimarotu import _driven
 
 ADDRESS, OTHER_ADDRESS = "127.0.0.1", "127.0.0.2"
 LIE = "203.0.113.66"
@@ -20,6 +23,8 @@ NOERROR, SERVFAIL, NXDOMAIN, REFUSED = 0, 2, 3, 5
 SLOW = 0.4
 # What takes longer will not come, in seconds.
 LONG = 30
+# For how many nanoseconds a machine sleeps, which is longer than any question waits.
+NIGHT = 8 * 3600 * 10**9
 
 
 def name_octets(name):
@@ -201,6 +206,27 @@ class Server:
                 step = 1 if query.first == "cut" else len(octets)
                 for at in range(0, len(octets), step):
                     connection.sendall(octets[at : at + step])
+
+
+@contextlib.contextmanager
+def sleeping_machine():
+    """Gives what has the clock of the package go on as that of a machine that sleeps for a night."""
+    clock, slept = _driven._clock, 0
+
+    def told(which):
+        return clock(which) + (slept if which == time.CLOCK_BOOTTIME else 0)
+
+    def sleep():
+        nonlocal slept
+        slept += NIGHT
+
+    with unittest.mock.patch.object(_driven, "_clock", told):
+        yield sleep
+
+
+def wait_until_readable(sock):
+    if not select.select([sock], [], [], LONG)[0]:
+        raise AssertionError("nothing came")
 
 
 @contextlib.contextmanager

@@ -128,6 +128,25 @@ class Waiting(WithServer):
 
         self.assertGreaterEqual(self.run_with(work), 2)
 
+    def test_what_came_before_the_machine_woke(self):
+        """It is let go, and the question is sent anew."""
+        async def work(resolver):
+            with network.sleeping_machine() as sleep:
+                task = asyncio.ensure_future(resolver.lookup("held.example.test"))
+                await asyncio.sleep(0)
+                self.server.wait_for("held", 1)
+                (channel,) = resolver._driver.channels.values()
+                self.server.release()
+                network.wait_until_readable(channel.sock)
+                sleep()
+                while self.server.count("held") < 2:
+                    await asyncio.sleep(0.01)
+                self.server.release()
+                return await task
+
+        self.assertEqual(str(self.run_with(work)[0].data), "192.0.2.12")
+        self.assertEqual(self.server.count("held"), 2)
+
     def test_one_of_two_is_cancelled(self):
         """Who waits for the same question goes on."""
         async def work(resolver):

@@ -464,6 +464,36 @@ class Forks(WithServer):
         self.assertEqual(self.in_child(is_closed), 0)
 
 
+class Sleeping(WithServer):
+    def test_what_came_before_it_woke(self):
+        """A reply that came while the machine slept is let go, and the question is sent anew."""
+        found = []
+        with network.sleeping_machine() as sleep:
+            resolver = self.resolver()
+            thread = threading.Thread(target=lambda: found.append(resolver.lookup("held.example.test", timeout=60)))
+            thread.start()
+            self.server.wait_for("held", 1)
+            with resolver._driver.lock:
+                (channel,) = resolver._driver.channels.values()
+                self.server.release()
+                network.wait_until_readable(channel.sock)
+                sleep()
+            self.server.wait_for("held", 2)
+            self.server.release()
+            thread.join(60)
+        self.assertEqual([str(it[0].data) for it in found], ["192.0.2.12"])
+        self.assertEqual(self.server.count("held"), 2)
+
+    def test_a_look_up_when_it_woke(self):
+        """The first reply that comes then is believed."""
+        with network.sleeping_machine() as sleep:
+            resolver = self.resolver()
+            for count in (1, 2):
+                self.assertEqual(str(resolver.lookup("four.example.test")[0].data), "192.0.2.4")
+                self.assertEqual(self.server.count(), count)
+                sleep()
+
+
 class Fed(unittest.TestCase):
     def test_session(self):
         """A session that is fed by hand, as it was before there was a resolver."""

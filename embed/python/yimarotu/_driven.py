@@ -19,7 +19,7 @@ ROOM = 1 << 16
 # For addresses, of 17 octets each; and the longest message.
 ADDRESSES, MESSAGE = 17 * 64, 65535
 NXDOMAIN = 3
-_clock, _BOOTTIME = time.clock_gettime_ns, time.CLOCK_BOOTTIME
+_clock, _BOOTTIME, _MONOTONIC = time.clock_gettime_ns, time.CLOCK_BOOTTIME, time.CLOCK_MONOTONIC
 _next, _start, _start_ip, _cancel = (
     library.yimarotu_next, library.yimarotu_start, library.yimarotu_start_ip, library.yimarotu_cancel
 )
@@ -29,6 +29,11 @@ _addresses, _answer = library.yimarotu_addresses, library.yimarotu_answer
 def now() -> int:
     """The moment in milliseconds, of a clock that does not go back and counts while the machine sleeps."""
     return _clock(_BOOTTIME) // 1_000_000
+
+
+def asleep() -> int:
+    """For how many milliseconds the machine has slept since it was started."""
+    return (_clock(_BOOTTIME) - _clock(_MONOTONIC)) // 1_000_000
 
 
 class Told(NamedTuple):

@@ -10,8 +10,9 @@ import socket
 from typing import Any, Dict, List, NamedTuple, Optional, Tuple
 
 from . import _numbers as numbers
-from ._driven import DrivenSession
+from ._driven import DrivenSession, asleep
 from ._settings import Opening
+from .errors import OutOfMemory
 
 # Errors of this machine, and not of the way to the server.
 # A channel cannot be opened, since no descriptor, no memory or no port is left.
@@ -19,6 +20,8 @@ LOCAL = {errno.EMFILE, errno.ENFILE, errno.ENOBUFS, errno.ENOMEM, errno.EADDRNOT
 NOT_YET = {errno.EAGAIN, errno.EWOULDBLOCK, errno.EINTR, errno.EINPROGRESS, errno.ENOTCONN, errno.EALREADY}
 # The most octets that are read at once: a whole datagram.
 MOST = 65535
+# More datagrams than a socket holds, and the milliseconds of a sleep after which it matters when they came.
+MOST_LET_GO, SLEPT = 4096, 1000
 KINDS = {
     numbers.DATAGRAM: socket.SOCK_DGRAM | socket.SOCK_NONBLOCK,
     numbers.STREAM: socket.SOCK_STREAM | socket.SOCK_NONBLOCK,
@@ -77,6 +80,7 @@ class Network:
         self._places: Dict[Tuple[bytes, int, int], Place] = {}
         # Whether something was sent, so that time may end something sooner than was said before.
         self.has_sent = False
+        self._asleep = asleep()
 
     def watch(self, channel: Channel) -> None:
         """From now on `receive` is to be called whenever something came on it."""
@@ -94,6 +98,8 @@ class Network:
         """Does what is to be done, and gives the numbers of the look-ups that are done."""
         session, following = self.session, self.session.next
         done: List[int] = []
+        if self._has_slept():
+            self._let_go()
         while True:
             action = following()
             kind = action.kind
@@ -159,6 +165,9 @@ class Network:
 
     def receive(self, channel: Channel) -> None:
         """Hands in what came on a channel, or that it failed."""
+        if self._has_slept():
+            self._let_go()
+            return
         try:
             octets = channel.sock.recv(MOST)
         except OSError as error:
@@ -168,9 +177,30 @@ class Network:
         if octets or not channel.server.is_stream:
             if self.watcher is not None:
                 self.watcher.came(channel.number, octets)
-            self.session.came(channel.number, octets)
+            try:
+                self.session.came(channel.number, octets)
+            except OutOfMemory:
+                # (without these octets what comes behind them on a stream cannot be read)
+                if channel.server.is_stream:
+                    self._fail(channel, OSError(errno.ENOMEM, "no memory was left"))
+                raise
         else:
             self._fail(channel, None)
+
+    def _has_slept(self) -> bool:
+        """Whether the machine slept since this was asked last."""
+        before, self._asleep = self._asleep, asleep()
+        return self._asleep >= before + SLEPT
+
+    def _let_go(self) -> None:
+        """What came before the machine woke is not handed in: its TTLs would count from now. Of a stream it is not
+        known what did."""
+        self.session.tick()
+        for channel in list(self.channels.values()):
+            if not channel.server.is_stream:
+                _empty(channel.sock)
+            elif not channel.is_failed:
+                self._fail(channel, None)
 
     def _fail(self, channel: Channel, error: Optional[OSError]) -> None:
         """A stream that failed is of no use any more; a socket for datagrams is kept after an ICMP error."""
@@ -217,6 +247,16 @@ class Network:
             channel.sock.close()
         self.channels.clear()
         self.session.leave()
+
+
+def _empty(sock: socket.socket) -> None:
+    """Reads the datagrams that a socket holds, and errors that ICMP told, and looks at none."""
+    for _ in range(MOST_LET_GO):
+        try:
+            sock.recv(1)
+        except OSError as error:
+            if error.errno in NOT_YET:
+                return
 
 
 def _scope_number(scope: bytes) -> int:

@@ -85,7 +85,8 @@ class Session:
 
     Settings are lines of a script, texts are str or bytes, messages are bytes (RFC 1035, section 4.1), and moments are
     seconds. A call that does not end well raises `Refused` with the number of its status; a number that does not fit
-    raises OverflowError. Threads may share a session: calls are made one at a time, under the interpreter's lock.
+    raises OverflowError. Threads may share a session: calls are made one at a time, under the interpreter's lock. Where
+    an interpreter is built without that lock, a session that threads share wants one of its own.
 
     >>> with Session("option ip_strategy Ipv4Only\\n", "192.0.2.9 printer.\\n") as session:
     ...     waits = session.start_ip(1, "printer.", moment=100)

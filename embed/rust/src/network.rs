@@ -17,6 +17,10 @@ const OUT: usize = 1 << 20;
 const LONGEST: u128 = 60_000;
 /// A descriptor that poll passes over.
 const NONE: i32 = -1;
+/// Where the machine slept for so long, it matters when something came.
+const SLEPT: Duration = Duration::from_secs(1);
+/// More datagrams than a socket holds.
+const MOST_LET_GO: usize = 4096;
 
 /// What happened on a channel.
 pub(crate) enum Event<'a> {
@@ -44,6 +48,8 @@ pub(crate) struct Network {
     channels: Vec<Channel>,
     polled: Vec<PollFd>,
     room: Vec<u8>,
+    /// How long the machine had slept when that was asked last.
+    asleep: Duration,
 }
 
 impl Network {
@@ -95,14 +101,44 @@ impl Network {
         }
     }
 
-    /// Waits until something happens, for so long at most, and tells it.
-    pub(crate) fn wait<E: From<io::Error>>(
+    /// Whether the machine slept since this was asked last.
+    pub(crate) fn has_slept(&mut self) -> bool {
+        let before = std::mem::replace(&mut self.asleep, system::asleep());
+        self.asleep >= before + SLEPT
+    }
+
+    /// Lets go of what came: datagrams are read and not told. Of a stream it is not known what came
+    /// by when, so it is told to be closed.
+    pub(crate) fn let_go<E>(
         &mut self,
-        longest: Option<Duration>,
-        mut tell: impl FnMut(u64, Event<'_>) -> Result<(), E>,
+        mut tell_closed: impl FnMut(u64) -> Result<(), E>,
     ) -> Result<(), E> {
+        for (channel, polled) in self.channels.iter().zip(&mut self.polled) {
+            polled.revents = 0;
+            match &channel.socket {
+                Socket::Datagram(socket) => empty(socket),
+                Socket::Stream { .. } if polled.fd == NONE => {}
+                Socket::Stream { .. } => {
+                    polled.fd = NONE;
+                    tell_closed(channel.number)?;
+                }
+            }
+        }
+        Ok(())
+    }
+
+    /// Waits until something happens, for so long at most.
+    pub(crate) fn wait(&mut self, longest: Option<Duration>) -> io::Result<()> {
         let longest = longest.map_or(LONGEST, |it| it.as_millis().min(LONGEST));
         system::wait_for(&mut self.polled, i32::try_from(longest).unwrap_or(0))?;
+        Ok(())
+    }
+
+    /// Tells what happened.
+    pub(crate) fn tell<E>(
+        &mut self,
+        mut tell: impl FnMut(u64, Event<'_>) -> Result<(), E>,
+    ) -> Result<(), E> {
         for place in 0..self.channels.len() {
             let number = self.channels[place].number;
             match self.look_at(place) {
@@ -176,6 +212,16 @@ impl Socket {
     }
 }
 
+/// Reads what a socket holds, and errors that ICMP told, and looks at none of it.
+fn empty(socket: &UdpSocket) {
+    for _ in 0..MOST_LET_GO {
+        match socket.recv(&mut [0]) {
+            Err(error) if is_for_later(&error) => return,
+            _ => {}
+        }
+    }
+}
+
 /// A socket of its own, connected to a server.
 fn socket_to(server: SocketAddr, protocol: Protocol) -> io::Result<Socket> {
     match protocol {
@@ -245,6 +291,43 @@ fn failure_of(error: &io::Error) -> ChannelFailure {
 #[cfg(test)]
 mod tests {
     use super::*;
+
+    #[test]
+    fn what_came_before_the_machine_woke_is_let_go() {
+        let server = UdpSocket::bind("127.0.0.1:0").unwrap();
+        let mut network = Network::default();
+        let place = server.local_addr().unwrap();
+        network.open(1, Protocol::Udp, place).unwrap();
+        network.send(1, b"question").unwrap();
+        let (_, peer) = server.recv_from(&mut [0; 16]).unwrap();
+        let mut heard = Vec::new();
+        for (reply, is_let_go) in [(b"one", true), (b"two", false)] {
+            server.send_to(reply, peer).unwrap();
+            network.wait(None).unwrap();
+            if is_let_go {
+                network.let_go(|_| Err("no stream")).unwrap();
+            }
+            let told = network.tell(|number, event| {
+                let Event::Came(octets) = event else {
+                    return Err("nothing failed");
+                };
+                heard.push((number, octets.to_vec()));
+                Ok(())
+            });
+            told.unwrap();
+        }
+        assert_eq!(heard, [(1, b"two".to_vec())]);
+    }
+
+    #[test]
+    fn a_sleep_is_told_once() {
+        let mut network = Network::default();
+        network.has_slept();
+        assert!(!network.has_slept());
+        network.asleep = network.asleep.saturating_sub(SLEPT);
+        assert_eq!(network.has_slept(), system::asleep() >= SLEPT);
+        assert!(!network.has_slept());
+    }
 
     #[test]
     fn scopes_are_names_or_numbers() {

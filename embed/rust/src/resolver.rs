@@ -418,8 +418,22 @@ impl Driven {
         Ok(number)
     }
 
+    /// Where the machine slept, what came before it woke is not handed in: its TTLs would count
+    /// from now.
+    fn wake(&mut self) -> Result<(), ResolveError> {
+        if !self.network.has_slept() {
+            return Ok(());
+        }
+        let (session, now) = (&mut self.session, Moment::now());
+        session.tick(now)?;
+        self.network
+            .let_go(|channel| session.failed(channel, ChannelFailure::Closed, now))?;
+        Ok(())
+    }
+
     /// Does what is to be done.
     fn act(&mut self) -> Result<(), ResolveError> {
+        self.wake()?;
         loop {
             let failed = match self.session.next()? {
                 Action::Nothing => return Ok(()),
@@ -464,9 +478,11 @@ impl Driven {
             .map(|it| it + Duration::from_millis(1));
         let of_call = ends.map(|ends| ends.saturating_duration_since(now));
         let longest = [of_session, of_call].into_iter().flatten().min();
+        self.network.wait(longest)?;
+        self.wake()?;
         let session = &mut self.session;
         self.network
-            .wait(longest, |channel, event| hand_in(session, channel, &event))?;
+            .tell(|channel, event| hand_in(session, channel, &event))?;
         self.session.tick(Moment::now())?;
         self.act()
     }

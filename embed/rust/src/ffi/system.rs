@@ -6,6 +6,7 @@ use std::net::SocketAddr;
 use std::os::fd::{FromRawFd, OwnedFd, RawFd};
 use std::time::Duration;
 
+const CLOCK_MONOTONIC: c_int = 1;
 const CLOCK_BOOTTIME: c_int = 7;
 const AF_INET: u16 = 2;
 const AF_INET6: u16 = 10;
@@ -68,12 +69,21 @@ unsafe extern "C" {
 
 /// The time of the clock that does not go back, and counts while the machine sleeps.
 pub(crate) fn time() -> Duration {
+    time_by(CLOCK_BOOTTIME)
+}
+
+/// How long the machine has slept since it was started.
+pub(crate) fn asleep() -> Duration {
+    time_by(CLOCK_BOOTTIME).saturating_sub(time_by(CLOCK_MONOTONIC))
+}
+
+fn time_by(clock: c_int) -> Duration {
     let mut time = TimeSpec {
         seconds: 0,
         nanoseconds: 0,
     };
     // SAFETY: it writes the time that it is given, which is laid out as a timespec of 64 bits.
-    unsafe { clock_gettime(CLOCK_BOOTTIME, &raw mut time) };
+    unsafe { clock_gettime(clock, &raw mut time) };
     Duration::new(time.seconds as u64, time.nanoseconds as u32)
 }
 
