@@ -12,6 +12,7 @@ import time
 from live_parts import stub, zone
 
 from . import asking, bounds
+from .changing import Machine
 from .daemon import SECONDS, wait_until
 
 # Queries on one connection that reads nothing, and by how much the program may grow meanwhile.
@@ -28,6 +29,8 @@ PLACES, CLIENTS, OF_EACH = 1008, range(2, 7), 210
 # For how many seconds it is seen that no more queries come to wait.
 QUIET = 0.5
 NEWCOMERS = 100
+# For how many milliseconds a connection is accepted.
+LATE = 400
 
 
 def slow(cases, daemon):
@@ -240,6 +243,33 @@ def all_wait(cases, daemon):
         cases.equal("one more client, when they are closed", reply and asking.addresses(reply), ["127.0.0.1"])
 
 
+def heard_meanwhile(cases, daemon):
+    """Something comes of the one connection that would give way, while another one is accepted: that one is closed."""
+    if daemon.name.endswith(".sanitized"):
+        return
+    machine = Machine(daemon.folder, daemon.program.parent / "sleeping.so")
+    with contextlib.ExitStack() as stack:
+        silent = stack.enter_context(bounds.datagrams())
+        silent.bind(("127.0.0.1", 0))
+        lines = [f"server 127.0.0.1 {silent.getsockname()[1]} udp", f"option timeout {bounds.PATIENT}"]
+        running = stack.enter_context(daemon.running(*lines, env=machine.environment))
+        idle = stack.enter_context(asking.stream(running.port))
+        for number in range(PLACES - 1):
+            client = CLIENTS[number % len(CLIENTS)]
+            sock = stack.enter_context(asking.stream(running.port, source=f"127.0.0.{client}"))
+            sock.sendall(asking.pipelined(asking.query(f"w{client}.example.test")))
+        wait_until(lambda: running.counts()["waiting"] == PLACES - 1, "all others wait")
+        machine.accept_late(LATE)
+        newcomer = stack.enter_context(asking.stream(running.port, source="127.0.0.9"))
+        time.sleep(LATE / 4000)
+        idle.sendall(b"\0")
+        with contextlib.suppress(ConnectionError):
+            cases.equal("one more, when it was accepted", newcomer.recv(1), b"")
+        machine.accept_late(0)
+        found = asking.addresses(asking.by_udp(running.port, "localhost"))
+        cases.equal("a client by UDP, behind that", found, ["127.0.0.1"])
+
+
 def is_answered(sock):
     with contextlib.suppress(ConnectionError), sock.makefile("rb") as file:
         return asking.read_reply(file) is not None
@@ -299,4 +329,4 @@ def greedy(cases, daemon):
 
 
 ALL = (slow, in_pieces, not_kept, unread, dribbling, half_closed, gone, no_files, many_connections, all_wait,
-       asked_while_stopped, greedy)
+       heard_meanwhile, asked_while_stopped, greedy)

@@ -181,9 +181,10 @@ static bool is_of(const struct connection *connection, const union address *clie
     return length == octets_of_address(client, &other) && memcmp(one, other, length < octets ? length : octets) == 0;
 }
 
-/* Whether something came of it that is read at its turn. */
+/* Whether something came of it that is looked at in its turn: a query that is held, or octets that are still to be read. */
 static bool is_heard(const struct connection *connection) {
     uint8_t octet;
+    if (may_ask(connection) && is_whole(&connection->in, 0)) return true;
     return (connection->events & EPOLLIN) != 0 && recv(connection->fd, &octet, 1, MSG_PEEK) > 0;
 }
 
@@ -242,6 +243,14 @@ static bool may_connect(const union address *client) {
         && has_share(client, NETWORK, MOST_OF_CLIENT);
 }
 
+/* Something may have come by now of the connection that was to give way: then there is no place. */
+static void take_connection(const struct listener *listener, int fd, const union address *client) {
+    bool may_begin = listener->is_control || may_connect(client);
+    struct connection *place = may_begin ? place_for(listener->is_control) : NULL;
+    if (place != NULL) begin(place, listener, fd, client);
+    else close(fd);
+}
+
 /* Without a file, or a place, for another connection, those that come wait until one is closed. */
 void on_connecting(const struct listener *listener) {
     for (int turn = 0; turn < BATCH; turn++) {
@@ -249,8 +258,7 @@ void on_connecting(const struct listener *listener) {
         socklen_t length = sizeof client;
         if (place_for(listener->is_control) == NULL) return pause_accepting(listener);
         int fd = accept4(listener->fd, &client.any, &length, SOCK_NONBLOCK | SOCK_CLOEXEC);
-        if (fd >= 0 && !listener->is_control && !may_connect(&client)) close(fd);
-        else if (fd >= 0) begin(place_for(listener->is_control), listener, fd, &client);
+        if (fd >= 0) take_connection(listener, fd, &client);
         else if (errno == EAGAIN) return;
         else if (errno != ECONNABORTED && errno != EINTR) return pause_accepting(listener);
     }
