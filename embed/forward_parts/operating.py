@@ -464,7 +464,7 @@ def activated(cases, daemon):
 
 
 def activated_control(cases, daemon):
-    """A control socket that systemd opened is for one process: with more of them it does not begin."""
+    """Beside a control socket that systemd opened lines `listen` count. With many processes it does not begin."""
     path = daemon.folder / f"given{time.monotonic_ns()}"
     with socket.socket(socket.AF_UNIX) as given, stub.running() as server:
         given.bind(str(path))
@@ -473,6 +473,9 @@ def activated_control(cases, daemon):
         with daemon.over(server, before=before, **how) as running:
             running._control = (running._control[0], path)
             cases.equal("a command by a control socket of systemd's", running.control("clear"), (0, "", ""))
+            for asked in (asking.by_udp, asking.by_tcp):
+                found = asking.addresses(asked(running.port, "four.example.test"))
+                cases.equal(f"beside one, {asked.__name__}", found, ["192.0.2.4"])
         cases.tell("it stays", path.is_socket(), path)
         config = daemon.write(f"server 127.0.0.1 {server.port}", "hosts none", "control none", "processes 2")
         words = [*before, daemon.program, "--config", config]

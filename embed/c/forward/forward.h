@@ -80,7 +80,7 @@ struct listener {
 
 struct listeners { /* of one process */
     size_t count;
-    struct listener at[2 * LISTENS + 1];
+    struct listener at[4 * LISTENS + 1]; /* control sockets that systemd gave stand beside those of this program */
 };
 
 bool take_activated(struct listeners *listeners); /* those that systemd gave, if there are any */

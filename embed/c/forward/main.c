@@ -344,20 +344,20 @@ static void remove_controls(void) {
     }
 }
 
-/* Sockets that systemd opened are those of each process. */
+static bool has_activated(bool is_control) {
+    bool is_there = false;
+    for (size_t at = 0; at < all[0].count; at++) is_there |= all[0].at[at].is_control == is_control;
+    return is_there;
+}
+
+/* Sockets for clients that systemd opened are those of each process. */
 static bool listen_for_clients(void) {
-    bool is_activated = all[0].count > 0;
+    bool is_activated = has_activated(false);
     for (size_t at = 0; at < settings.processes; at++) {
         if (is_activated && at > 0) all[at] = all[0];
         if (!is_activated && !listen_at(&settings, &all[at])) return false;
     }
     return true;
-}
-
-static bool has_activated_control(void) {
-    bool is_there = false;
-    for (size_t at = 0; at < all[0].count; at++) is_there |= all[0].at[at].is_control;
-    return is_there;
 }
 
 /* Gives how it ends where it cannot begin, else ENDED. An address that is not there yet may come; a user does not. */
@@ -370,7 +370,7 @@ static int prepare(void) {
     if (user == 0) fputs("yimarotu-forward: it keeps all rights of root: a line `user` is wanted\n", stderr);
     if (getrlimit(RLIMIT_NOFILE, &files) == 0) files.rlim_cur = files.rlim_max, setrlimit(RLIMIT_NOFILE, &files);
     if (!take_activated(&all[0])) return WANTING;
-    if (settings.processes > 1 && has_activated_control()) /* one of them would have each command */
+    if (settings.processes > 1 && has_activated(true)) /* one of them would have each command */
         return fputs("yimarotu-forward: a control socket of systemd is for one process\n", stderr), UNFIT;
     if (!listen_for_clients()) return WANTING;
     if (!listen_for_controls(user, group)) return errno == EPERM ? UNFIT : WANTING; /* chown(2) wants rights */
