@@ -23,6 +23,8 @@ from .daemon import ROOT, SECONDS, wait_until
 OTHER_USER = "nobody"
 # How many octets a file has at the most.
 LONGEST_FILE = 4096
+# How many words a line of the log has.
+WORDS_OF_LINE = 6
 
 
 def checked(cases, daemon):
@@ -261,14 +263,21 @@ def log_stays(cases, daemon):
 
 
 def long_log(cases, daemon):
-    """Lines that a log does not take, since files may be no longer, are lost and counted, and clients are answered."""
+    """Lines that a log does not take, since files may be no longer, are lost and counted, and clients are answered. Once
+    there is room again no line goes on in another one."""
     log = daemon.folder / f"log{time.monotonic_ns()}"
-    limit = functools.partial(resource.setrlimit, resource.RLIMIT_FSIZE, (LONGEST_FILE, LONGEST_FILE))
+    limit = functools.partial(resource.setrlimit, resource.RLIMIT_FSIZE, (LONGEST_FILE, 2 * LONGEST_FILE))
     with stub.running() as server, daemon.over(server, f"log {log}", preexec_fn=limit) as running:
         for _ in range(LONGEST_FILE // 20):
             found = asking.addresses(asking.by_udp(running.port, "four.example.test"))
         cases.equal("a client, where the log is full", found, ["192.0.2.4"])
         wait_until(lambda: running.counts()["log_lines_lost"] > 0, "lines of the log are lost")
+        resource.prlimit(running.pid, resource.RLIMIT_FSIZE, (2 * LONGEST_FILE, 2 * LONGEST_FILE))
+        with cases.guard("a log that goes on"):
+            asking.by_udp(running.port, "last.example.test")
+            wait_until(lambda: "last.example.test" in log.read_text(), "the log goes on")
+            cut = [line for line in log.read_text().splitlines() if len(line.split()) != WORDS_OF_LINE]
+            cases.equal("lines that are cut, once there was room again", cut, [])
 
 
 def status_of(pid):

@@ -16,7 +16,8 @@ enum { HEADER = 12, LONGEST_NAME = 255, TEXT = 4 * LONGEST_NAME + 1, LINE = TEXT
 
 static int file = -1;
 static char lines[PIPE_BUF]; /* a pipe takes so many octets whole, or none of them */
-static size_t length, line_count;
+static size_t length;
+static bool has_rest; /* in front stands what is left of a line that was taken in part, by a disk that is full */
 
 /* A pipe without a reader is opened for reading, too: else it could not be opened at all. */
 bool open_log(const char *path) {
@@ -33,11 +34,24 @@ void close_log(void) {
     write_log();
     if (file >= 0) close(file);
     file = -1;
+    length = 0, has_rest = false;
 }
 
+/* The end of the line in which these octets are. */
+static size_t line_end(size_t at) {
+    const char *end = memchr(lines + at, '\n', length - at);
+    return end == NULL ? length : (size_t)(end - lines) + 1;
+}
+
+/* What is left of a line is tried again: else the next one would go on in it. */
 void write_log(void) {
-    if (length > 0 && write(file, lines, length) != (ssize_t)length) counts.lost_lines += line_count;
-    length = line_count = 0;
+    ssize_t done = length > 0 ? write(file, lines, length) : 0;
+    size_t taken = done > 0 ? (size_t)done : 0;
+    bool is_cut = taken > 0 ? lines[taken - 1] != '\n' : has_rest;
+    size_t kept = is_cut && taken < length ? line_end(taken) : taken;
+    for (size_t at = kept; at < length; at = line_end(at)) counts.lost_lines++;
+    memmove(lines, lines + taken, kept - taken);
+    length = kept - taken, has_rest = length > 0;
 }
 
 static size_t put_moment(char *text) {
@@ -114,5 +128,5 @@ void log_reply(const union address *client, bool is_stream, const uint8_t *reply
     size_t more = put_line(line, client, is_stream, reply, size);
     if (length + more > sizeof lines) write_log();
     memcpy(lines + length, line, more);
-    length += more, line_count++;
+    length += more;
 }
