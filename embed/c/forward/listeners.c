@@ -18,10 +18,11 @@ static bool set(int fd, int level, int option, int value) {
     return setsockopt(fd, level, option, &value, sizeof value) == 0;
 }
 
-/* What is told of a path's size by ICMP is believed nowhere: a stranger could have datagrams cut. */
+/* What is told of a path's size by ICMP is believed nowhere: a stranger could have datagrams cut. By a socket of IPv6 that
+ * systemd opened clients of IPv4 may come, too. */
 void ignore_path_mtu(int fd, int family) {
-    if (family == AF_INET) set(fd, IPPROTO_IP, IP_MTU_DISCOVER, IP_PMTUDISC_OMIT);
-    else set(fd, IPPROTO_IPV6, IPV6_MTU_DISCOVER, IPV6_PMTUDISC_OMIT);
+    set(fd, IPPROTO_IP, IP_MTU_DISCOVER, IP_PMTUDISC_OMIT);
+    if (family != AF_INET) set(fd, IPPROTO_IPV6, IPV6_MTU_DISCOVER, IPV6_PMTUDISC_OMIT);
 }
 
 /* Each datagram tells to which address it came. Where many ask at once, their queries wait in the socket. */
