@@ -9,17 +9,24 @@ import dns.message
 import dns.rrset
 
 RESOLVER, CLIENT, UPSTREAM = "192.0.2.1", "198.51.100.7", "203.0.113.53"
+RESOLVER_6, UPSTREAM_6 = "2001:db8::1", "2001:db8::53"
 HEAD = struct.pack("<IHHiIII", 0xA1B2C3D4, 2, 4, 0, 0, 65535, 101)
 UDP, TCP = 17, 6
 SYN, FIN, PSH = 2, 1, 8
 
 
+def stamped(milliseconds, data):
+    return struct.pack("<4I", milliseconds // 1000, milliseconds % 1000 * 1000, len(data), len(data)) + data
+
+
 def packet(milliseconds, protocol, source, target, rest):
-    length = 20 + len(rest)
-    addresses = (ipaddress.IPv4Address(address).packed for address in (source, target))
-    head = struct.pack(">BBHHHBBH4s4s", 0x45, 0, length, 0, 0, 64, protocol, 0, *addresses)
-    stamp = struct.pack("<4I", milliseconds // 1000, milliseconds % 1000 * 1000, length, length)
-    return stamp + head + rest
+    addresses = [ipaddress.ip_address(address).packed for address in (source, target)]
+    if len(addresses[0]) == 16:
+        # Behind the packet stands a trailer of the link.
+        head = struct.pack(">IHBB", 6 << 28, len(rest), protocol, 64)
+        return stamped(milliseconds, head + b"".join(addresses) + rest + bytes(4))
+    head = struct.pack(">BBHHHBBH", 0x45, 0, 20 + len(rest), 0, 0, 64, protocol, 0)
+    return stamped(milliseconds, head + b"".join(addresses) + rest)
 
 
 def datagram(milliseconds, source, target, payload):
@@ -75,16 +82,16 @@ answer www.example.test. 60 IN A 192.0.2.80
 """
 
 
-def by_tcp(order, start=0xFFFFFFF0):
+def by_tcp(order, start=0xFFFFFFF0, resolver=RESOLVER, upstream=UPSTREAM):
     """A truncated reply, and the whole one by TCP in three pieces, in this order; the numbers of their bytes wrap."""
     asked = query("big.example.test.", "TXT")
     whole = framed(reply(asked, 'big.example.test. 60 IN TXT "a"'))
-    here, there = (RESOLVER, 6000), (UPSTREAM, 53)
+    here, there = (resolver, 6000), (upstream, 53)
     cuts = [0, 1, 20, len(whole)]
     pieces = [(cuts[i], whole[cuts[i]:cuts[i + 1]]) for i in range(3)]
     made = [
-        datagram(1000, (RESOLVER, 5353), there, asked.to_wire()),
-        datagram(1001, there, (RESOLVER, 5353), reply(asked, cut=True).to_wire()),
+        datagram(1000, (resolver, 5353), there, asked.to_wire()),
+        datagram(1001, there, (resolver, 5353), reply(asked, cut=True).to_wire()),
         segment(1002, here, there, 7, SYN),
         segment(1003, there, here, start, SYN),
         segment(1004, here, there, 8, PSH, framed(asked)),
@@ -107,11 +114,16 @@ answer big.example.test. 60 IN TXT 61
 """
 
 
-def run(top, packets, *options):
+def run(top, packets, *resolvers):
     """What the tool makes of these packets as they come on standard input: its status, text and complaint."""
-    words = [sys.executable, top / "tools/pcap2trace", "-", "--resolver", RESOLVER, *options]
+    options = [word for resolver in resolvers or (RESOLVER,) for word in ("--resolver", resolver)]
+    words = [sys.executable, top / "tools/pcap2trace", "-", *options]
     done = subprocess.run(words, input=HEAD + b"".join(packets), capture_output=True, timeout=60)
     return done.returncode, done.stdout.decode(), done.stderr.decode()
+
+
+def left_out(count):
+    return f"{count} packets that are no whole message of DNS are left out\n"
 
 
 def live(top, packets):
@@ -132,6 +144,8 @@ def cases(told, top):
         for order, last in (((0, 1, 2), "012"), ((2, 1, 0), "012"), ((0, 0, 2, 1, 1), "013")):
             name = f"TCP in pieces, {order}"
             told.equal(name, run(top, by_tcp(order)), (0, BY_TCP.replace("{last}", last), ""))
+        found = run(top, by_tcp((0, 1, 2), resolver=RESOLVER_6, upstream=UPSTREAM_6), RESOLVER_6)
+        told.equal("TCP over IPv6, with trailers", found, (0, BY_TCP.replace("{last}", "012"), ""))
         told.equal("each event at once", live(top, both_sides()[1:]), ["at 100.001 asked www.example.test. A IN\n", "\n"])
         hidden = segment(1, (RESOLVER, 6000), (UPSTREAM, 853), 7, SYN)
         status, text, complaint = run(top, both_sides() + [hidden])
@@ -144,3 +158,6 @@ def cases(told, top):
         status, text, complaint = run(top, [datagram(5, (UPSTREAM, 53), (RESOLVER, 5353), b"\x00\x01")] + both_sides())
         told.equal("what is no message is left out", (status, text), (0, BOTH_SIDES))
         told.tell("and counted", complaint.startswith("1 packets"), complaint)
+        short = [stamped(5, bytes([version << 4, 0, 0, 0, 0, 0, UDP, 0, 0, UDP, 0])) for version in (4, 6)]
+        found = run(top, short + both_sides())
+        told.equal("packets that are shorter than a header of IP", found, (0, BOTH_SIDES, left_out(2)))

@@ -74,7 +74,7 @@ def without_link(link, packet):
 
 def ip_parts(packet):
     """The protocol, the two addresses and the rest of a packet of IP."""
-    if not packet:
+    if not packet or len(packet) < (20 if packet[0] >> 4 == 4 else 40):
         raise OtherPacket
     protocol, source, target, rest = (read_ipv4 if packet[0] >> 4 == 4 else read_ipv6)(packet)
     return protocol, str(source), str(target), rest
@@ -102,7 +102,9 @@ def read_ipv4(packet):
 def read_ipv6(packet):
     if packet[0] >> 4 != 6:
         raise OtherPacket
-    following, rest = packet[6], packet[40:]
+    length = struct.unpack_from(">4xH", packet)[0]
+    # Behind its end there may be a trailer of the link. A large packet of a machine's own has the length 0.
+    following, rest = packet[6], packet[40:40 + length if length else None]
     while following in IPV6_OPTIONS:
         following, rest = rest[0], rest[(rest[1] + 1) * 8:]
     return following, ipaddress.IPv6Address(packet[8:24]), ipaddress.IPv6Address(packet[24:40]), rest
