@@ -8,6 +8,8 @@ import dns.flags
 import dns.message
 import dns.rrset
 
+from yimarotu.streams import Segment, Streams
+
 RESOLVER, CLIENT, UPSTREAM = "192.0.2.1", "198.51.100.7", "203.0.113.53"
 RESOLVER_6, UPSTREAM_6 = "2001:db8::1", "2001:db8::53"
 HEAD = struct.pack("<IHHiIII", 0xA1B2C3D4, 2, 4, 0, 0, 65535, 101)
@@ -122,8 +124,19 @@ def run(top, packets, *resolvers):
     return done.returncode, done.stdout.decode(), done.stderr.decode()
 
 
-def left_out(count):
-    return f"{count} packets that are no whole message of DNS are left out\n"
+def left_out(count, what="packets that are no whole message of DNS"):
+    return f"{count} {what} are left out\n"
+
+
+def kept_of_connection():
+    """What is kept of a connection that both ends have finished, when the last acknowledgement is there."""
+    streams, client, server = Streams(), (RESOLVER, 6000), (UPSTREAM, 53)
+    streams.take(Segment(client, server, 7, SYN, b""))
+    streams.take(Segment(server, client, 70, SYN, b""))
+    streams.take(Segment(client, server, 8, FIN, b"\0\1a"))
+    streams.take(Segment(server, client, 71, FIN, b""))
+    streams.take(Segment(client, server, 12, 0, b""))
+    return streams.directions
 
 
 def live(top, packets):
@@ -144,6 +157,10 @@ def cases(told, top):
         for order, last in (((0, 1, 2), "012"), ((2, 1, 0), "012"), ((0, 0, 2, 1, 1), "013")):
             name = f"TCP in pieces, {order}"
             told.equal(name, run(top, by_tcp(order)), (0, BY_TCP.replace("{last}", last), ""))
+        found = run(top, by_tcp((0, 2)))
+        lost = BY_TCP[:BY_TCP.index("at 1.{last}")], left_out(1, "segments of TCP behind one that is missing")
+        told.equal("TCP with a piece that is missing", found, (0, *lost))
+        told.equal("TCP that has ended is let go of", kept_of_connection(), {})
         found = run(top, by_tcp((0, 1, 2), resolver=RESOLVER_6, upstream=UPSTREAM_6), RESOLVER_6)
         told.equal("TCP over IPv6, with trailers", found, (0, BY_TCP.replace("{last}", "012"), ""))
         told.equal("each event at once", live(top, both_sides()[1:]), ["at 100.001 asked www.example.test. A IN\n", "\n"])

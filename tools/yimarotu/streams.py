@@ -30,12 +30,15 @@ class Direction:
     following: int
     whole: bytearray = field(default_factory=bytearray)
     early: dict = field(default_factory=dict)
+    dropped: int = 0
 
     def take(self, number, payload):
         """The messages that are whole with these bytes. Bytes that came before are left out."""
         if not self.reaches(number):
             if sum(map(len, self.early.values())) < HELD:
                 self.early[number] = payload
+            else:
+                self.dropped += 1
             return []
         self.append(number, payload)
         while True:
@@ -43,6 +46,10 @@ class Direction:
             if not ready:
                 return self.messages()
             self.append(ready[0], self.early.pop(ready[0]))
+
+    def left_out(self):
+        """How many segments are in no message by now, since one before them is missing."""
+        return len(self.early) + self.dropped
 
     def reaches(self, number):
         """Whether bytes from this number on leave no gap."""
@@ -64,20 +71,28 @@ class Direction:
 
 
 class Streams:
-    """All directions of all connections. One whose beginning is not in the capture begins with its first segment."""
+    """All directions of all connections. One whose beginning is not in the capture begins with its first bytes: a
+    segment without any may be the last acknowledgement of one that has ended."""
 
     def __init__(self):
-        self.directions = {}
+        self.directions, self._left_out = {}, 0
 
     def take(self, segment):
         """The messages that are whole with this segment."""
         key = (segment.source, segment.target)
         number = segment.number + (1 if segment.flags & SYN else 0) & 0xFFFFFFFF
-        if segment.flags & SYN or key not in self.directions:
+        if segment.flags & SYN or segment.payload and key not in self.directions:
+            self.end(key)
             self.directions[key] = Direction(number)
-        found = self.directions[key].take(number, segment.payload) if segment.payload else []
-        if segment.flags & RST:
-            self.directions.pop(key, None)
-        elif segment.flags & FIN and not self.directions[key].early:
-            self.directions.pop(key, None)
+        direction = self.directions.get(key)
+        found = direction.take(number, segment.payload) if segment.payload else []
+        if segment.flags & RST or segment.flags & FIN and direction and not direction.early:
+            self.end(key)
         return found
+
+    def end(self, key):
+        direction = self.directions.pop(key, None)
+        self._left_out += direction.left_out() if direction else 0
+
+    def left_out(self):
+        return self._left_out + sum(direction.left_out() for direction in self.directions.values())
