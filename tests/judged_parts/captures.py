@@ -124,6 +124,9 @@ def run(top, packets, *resolvers):
     return done.returncode, done.stdout.decode(), done.stderr.decode()
 
 
+CUT = "the capture is cut short: its last packet is left out\n"
+
+
 def left_out(count, what="packets that are no whole message of DNS"):
     return f"{count} {what} are left out\n"
 
@@ -178,3 +181,6 @@ def cases(told, top):
         short = [stamped(5, bytes([version << 4, 0, 0, 0, 0, 0, UDP, 0, 0, UDP, 0])) for version in (4, 6)]
         found = run(top, short + both_sides())
         told.equal("packets that are shorter than a header of IP", found, (0, BOTH_SIDES, left_out(2)))
+        for count in (9, 20):
+            found = run(top, [*both_sides(), both_sides()[0][:count]])
+            told.equal(f"a last packet of which {count} bytes are there", found, (0, BOTH_SIDES, CUT))

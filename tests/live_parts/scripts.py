@@ -94,6 +94,7 @@ at 1795752011 lookup mail.example.test. MX
   err timeout
 """
 
+WWW = "www.example.test. 60 IN A 192.0.2.1"
 CLIENT, SERVER = (4, "192.0.2.10", 40000), (4, "192.0.2.53", 53)
 CLIENT_6, SERVER_6 = (6, "2001:db8::10", 40000), (6, "2001:db8::53", 53)
 PCAP_REPLAYED = """at 100 lookup alias.example.test. A
@@ -129,6 +130,8 @@ def run(cases, programs, folder):
     with cases.guard("pcap2script, another file"):
         other = make(folder, "none", bytes(64))
         cases.equal("pcap2script, of another file", tools.run("pcap2script", other)[:2], (1, ""))
+    with cases.guard("pcap2script, odd captures"):
+        of_odd_captures(cases, folder)
 
 
 def captured(cases, programs, folder, link, frame):
@@ -139,17 +142,36 @@ def captured(cases, programs, folder, link, frame):
     cases.tell(f"pcap2script, link type {link}: notes", PCAP_NOTES in text, text)
 
 
+def of_odd_captures(cases, folder):
+    """Cases of the whole script, but for the comments that stand above each."""
+    query, reply = (message(1, "www.example.test.", "A", *answers) for answers in ((), (WWW,)))
+    asked, answered = (100, 4, datagram(CLIENT, SERVER, query)), (100, 4, datagram(SERVER, CLIENT, reply))
+    whole = f"""upstream table
+reply NOERROR www.example.test. A IN
+answer {WWW}
+at 100 lookup www.example.test. A
+"""
+    cut = capture(101, LINKS[101], [asked, answered, asked])[:-1]
+    cases.equal("pcap2script, a capture that is cut short", made_of(folder, cut),
+                "# The capture is cut short: its last packet is left out.\n" + whole)
+
+
+def made_of(folder, data):
+    text = tools.run("pcap2script", make(folder, "odd", data))[1]
+    return text.partition("# those that an alias led to.\n")[2]
+
+
 def make(folder, name, data):
     path = folder / name
     path.write_bytes(data)
     return path
 
 
-def capture(link, frame):
-    """A capture of the same packets over this type of link."""
+def capture(link, frame, packets=None):
+    """A capture of these packets, or else of all that is seen below, over this type of link."""
     head = struct.pack("<IHHiIII", 0xA1B2C3D4, 2, 4, 0, 0, 65535, link)
     parts = [head]
-    for second, version, packet in seen():
+    for second, version, packet in seen() if packets is None else packets:
         data = frame(version, packet)
         parts.append(struct.pack("<4I", second, 0, len(data), len(data)) + data)
     return b"".join(parts)

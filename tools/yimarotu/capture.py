@@ -1,5 +1,4 @@
 """Reads a capture of packets: the classic form of pcap, with UDP and TCP over IPv4 and IPv6."""
-import io
 import ipaddress
 import struct
 from dataclasses import dataclass
@@ -37,28 +36,28 @@ class Datagram:
     payload: bytes
 
 
-def packets(data):
-    """The second, the type of the link and the bytes of each packet of a capture."""
-    for moment, link, packet in stream_packets(io.BytesIO(data)):
-        yield moment // 1000, link, packet
+class Capture:
+    """A capture that is read as it comes. `is_cut` says whether it ended within a packet, which is left out."""
 
+    def __init__(self, file):
+        self.file, self.is_cut = file, False
+        head = file.read(24)
+        self.order, self.unit = MAGICS.get(head[:4], (None, None))
+        if self.order is None or len(head) < 24:
+            raise NoCapture("no pcap file; one of pcapng is made into one by: editcap -F pcap IN OUT")
+        self.link = struct.unpack_from(self.order + "I", head, 20)[0] & 0xFFFF
+        if self.link != ETHERNET and self.link not in LINK_BYTES:
+            raise NoCapture(f"packets of link type {self.link} are not read")
 
-def stream_packets(file):
-    """The moment in milliseconds, the type of the link and the bytes of each packet of a capture, as it is read. A last
-    packet that is cut short is left out."""
-    head = file.read(24)
-    order, unit = MAGICS.get(head[:4], (None, None))
-    if order is None or len(head) < 24:
-        raise NoCapture("no pcap file; one of pcapng is made into one by: editcap -F pcap IN OUT")
-    link = struct.unpack_from(order + "I", head, 20)[0] & 0xFFFF
-    if link != ETHERNET and link not in LINK_BYTES:
-        raise NoCapture(f"packets of link type {link} are not read")
-    while len(head := file.read(16)) == 16:
-        second, fraction, length, _ = struct.unpack(order + "4I", head)
-        packet = file.read(length)
-        if len(packet) < length:
-            return
-        yield second * 1000 + fraction // unit, link, packet
+    def packets(self):
+        """The moment in milliseconds, the type of the link and the bytes of each packet."""
+        while len(head := self.file.read(16)) == 16:
+            second, fraction, length, _ = struct.unpack(self.order + "4I", head)
+            packet = self.file.read(length)
+            if len(packet) < length:
+                break
+            yield second * 1000 + fraction // self.unit, self.link, packet
+        self.is_cut = bool(head)
 
 
 def without_link(link, packet):
