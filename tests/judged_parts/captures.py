@@ -60,15 +60,15 @@ def framed(message):
     return struct.pack(">H", len(wire)) + wire
 
 
-def both_sides():
-    """A client's question that is asked once, and answered."""
+def both_sides(asker=RESOLVER):
+    """A client's question that is asked once, from this address, and answered."""
     asked = query("www.example.test.")
     answered = reply(asked, "www.example.test. 60 IN A 192.0.2.80")
     client, here, there = (CLIENT, 4000), (RESOLVER, 53), (UPSTREAM, 53)
     return [
         datagram(100000, client, here, asked.to_wire()),
-        datagram(100001, (RESOLVER, 5353), there, asked.to_wire()),
-        datagram(100021, there, (RESOLVER, 5353), answered.to_wire()),
+        datagram(100001, (asker, 5353), there, asked.to_wire()),
+        datagram(100021, there, (asker, 5353), answered.to_wire()),
         datagram(100022, here, client, answered.to_wire()),
     ]
 
@@ -85,10 +85,12 @@ answer www.example.test. 60 IN A 192.0.2.80
 
 
 def by_tcp(order, start=0xFFFFFFF0, resolver=RESOLVER, upstream=UPSTREAM):
-    """A truncated reply, and the whole one by TCP in three pieces, in this order; the numbers of their bytes wrap."""
+    """A truncated reply, and the whole one by TCP in three pieces, in this order; the numbers of their bytes wrap. Then
+    a client is told something else."""
     asked = query("big.example.test.", "TXT")
     whole = framed(reply(asked, 'big.example.test. 60 IN TXT "a"'))
     here, there = (resolver, 6000), (upstream, 53)
+    other = reply(query("other.example.test.")).to_wire()
     cuts = [0, 1, 20, len(whole)]
     pieces = [(cuts[i], whole[cuts[i]:cuts[i + 1]]) for i in range(3)]
     made = [
@@ -101,7 +103,8 @@ def by_tcp(order, start=0xFFFFFFF0, resolver=RESOLVER, upstream=UPSTREAM):
     for step, at in enumerate(order):
         offset, payload = pieces[at]
         made.append(segment(1010 + step, there, here, (start + 1 + offset) & 0xFFFFFFFF, PSH, payload))
-    return made + [segment(1020, there, here, (start + 1 + len(whole)) & 0xFFFFFFFF, FIN)]
+    made.append(segment(1020, there, here, (start + 1 + len(whole)) & 0xFFFFFFFF, FIN))
+    return made + [datagram(1030, (resolver, 53), (resolver, 4000), other)]
 
 
 BY_TCP = """at 1.000 asked big.example.test. TXT IN
@@ -114,6 +117,7 @@ at 1.{last} received NOERROR big.example.test. TXT IN
 answer big.example.test. 60 IN TXT 61
 
 """
+OTHER_TOLD = "at 1.030 told NOERROR other.example.test. A IN\n\n"
 
 
 def run(top, packets, *resolvers):
@@ -124,6 +128,10 @@ def run(top, packets, *resolvers):
     return done.returncode, done.stdout.decode(), done.stderr.decode()
 
 
+ASKER = "192.0.2.2"
+NOTHING_ASKED = (f"nothing was asked from {RESOLVER}: name each address of the resolver, "
+                 "also the one that it asks from\n")
+NOTHING_TOLD = f"nothing was told to a client by {ASKER}: name each address of the resolver\n"
 CUT = "the capture is cut short: its last packet is left out\n"
 
 
@@ -154,18 +162,32 @@ def live(top, packets):
     return lines
 
 
+def of_addresses(told, top):
+    """A resolver that asks from another address than the one at which its clients ask it."""
+    at = BOTH_SIDES.index("at 100.022")
+    packets = both_sides(ASKER)
+    told.equal("both addresses", run(top, packets, RESOLVER, ASKER), (0, BOTH_SIDES, ""))
+    told.equal("only that of the clients", run(top, packets), (1, BOTH_SIDES[at:], NOTHING_ASKED))
+    told.equal("only that which asks", run(top, packets, ASKER), (1, BOTH_SIDES[:at], NOTHING_TOLD))
+    told.equal("nothing of DNS", run(top, []), (0, "", ""))
+    scoped = run(top, by_tcp((0, 1, 2), resolver="fe80::1", upstream=UPSTREAM_6), "fe80::1%eth0")
+    told.equal("an address with a scope", scoped, (0, BY_TCP.replace("{last}", "012") + OTHER_TOLD, ""))
+
+
 def cases(told, top):
     with told.guard("captures"):
         told.equal("both sides of a resolver", run(top, both_sides()), (0, BOTH_SIDES, ""))
+        of_addresses(told, top)
         for order, last in (((0, 1, 2), "012"), ((2, 1, 0), "012"), ((0, 0, 2, 1, 1), "013")):
             name = f"TCP in pieces, {order}"
-            told.equal(name, run(top, by_tcp(order)), (0, BY_TCP.replace("{last}", last), ""))
+            told.equal(name, run(top, by_tcp(order)), (0, BY_TCP.replace("{last}", last) + OTHER_TOLD, ""))
         found = run(top, by_tcp((0, 2)))
-        lost = BY_TCP[:BY_TCP.index("at 1.{last}")], left_out(1, "segments of TCP behind one that is missing")
-        told.equal("TCP with a piece that is missing", found, (0, *lost))
+        lost = BY_TCP[:BY_TCP.index("at 1.{last}")] + OTHER_TOLD
+        why = left_out(1, "segments of TCP behind one that is missing")
+        told.equal("TCP with a piece that is missing", found, (0, lost, why))
         told.equal("TCP that has ended is let go of", kept_of_connection(), {})
         found = run(top, by_tcp((0, 1, 2), resolver=RESOLVER_6, upstream=UPSTREAM_6), RESOLVER_6)
-        told.equal("TCP over IPv6, with trailers", found, (0, BY_TCP.replace("{last}", "012"), ""))
+        told.equal("TCP over IPv6, with trailers", found, (0, BY_TCP.replace("{last}", "012") + OTHER_TOLD, ""))
         told.equal("each event at once", live(top, both_sides()[1:]), ["at 100.001 asked www.example.test. A IN\n", "\n"])
         hidden = segment(1, (RESOLVER, 6000), (UPSTREAM, 853), 7, SYN)
         status, text, complaint = run(top, both_sides() + [hidden])
