@@ -1,5 +1,6 @@
 """Cases of `pcap2trace`: small captures that are made here, and the traces that they are."""
 import ipaddress
+import signal
 import struct
 import subprocess
 import sys
@@ -157,9 +158,25 @@ def live(top, packets):
         process.stdin.write(HEAD + packets[0])
         process.stdin.flush()
         lines = [process.stdout.readline().decode() for _ in range(2)]
+        process.stdin.write(b"".join(packets[1:]))
         process.stdin.close()
         process.wait(timeout=60)
     return lines
+
+
+def interrupted(top, packets):
+    """How it ends by Ctrl-C while the capture goes on: its status and complaint."""
+    words = [sys.executable, top / "tools/pcap2trace", "-", "--resolver", RESOLVER]
+    how = dict.fromkeys(("stdin", "stdout", "stderr"), subprocess.PIPE)
+    # Whoever runs the tests may have it ignored.
+    how["preexec_fn"] = lambda: signal.signal(signal.SIGINT, signal.SIG_DFL)
+    with subprocess.Popen(words, **how) as process:
+        process.stdin.write(HEAD + packets[0])
+        process.stdin.flush()
+        process.stdout.readline()
+        process.send_signal(signal.SIGINT)
+        process.wait(timeout=60)
+        return process.returncode, process.stderr.read().decode()
 
 
 def of_addresses(told, top):
@@ -188,7 +205,9 @@ def cases(told, top):
         told.equal("TCP that has ended is let go of", kept_of_connection(), {})
         found = run(top, by_tcp((0, 1, 2), resolver=RESOLVER_6, upstream=UPSTREAM_6), RESOLVER_6)
         told.equal("TCP over IPv6, with trailers", found, (0, BY_TCP.replace("{last}", "012") + OTHER_TOLD, ""))
-        told.equal("each event at once", live(top, both_sides()[1:]), ["at 100.001 asked www.example.test. A IN\n", "\n"])
+        lines = ["at 100.001 asked www.example.test. A IN\n", "\n"]
+        told.equal("each event at once", live(top, both_sides()[1:]), lines)
+        told.equal("Ctrl-C", interrupted(top, both_sides()[1:]), (130, ""))
         hidden = segment(1, (RESOLVER, 6000), (UPSTREAM, 853), 7, SYN)
         status, text, complaint = run(top, both_sides() + [hidden])
         told.equal("an upstream by TLS is refused", (status, text), (1, BOTH_SIDES))
