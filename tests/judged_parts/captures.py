@@ -191,10 +191,26 @@ def of_addresses(told, top):
     told.equal("an address with a scope", scoped, (0, BY_TCP.replace("{last}", "012") + OTHER_TOLD, ""))
 
 
+def of_forged_replies(told, top):
+    """Before the reply stand some of another number, question, port or address, and behind it the same once more."""
+    packets = both_sides()
+    asked = dns.message.from_wire(packets[1][16 + 28:])
+    there, here = (UPSTREAM, 53), (RESOLVER, 5353)
+    forged = reply(asked, "www.example.test. 60 IN A 203.0.113.66").to_wire()
+    other_number = bytes([forged[0] ^ 1]) + forged[1:]
+    other_question = forged.replace(b"\3www", b"\3wwx")
+    replies = [(there, here, other_number), (there, here, other_question), (there, (RESOLVER, 5354), forged),
+               ((CLIENT, 53), here, forged)]
+    packets[2:2] = [datagram(100010, *ends, wire) for *ends, wire in replies]
+    packets.insert(7, datagram(100021, there, here, forged))
+    told.equal("forged replies", run(top, packets), (0, BOTH_SIDES, left_out(5, "replies to no open question")))
+
+
 def cases(told, top):
     with told.guard("captures"):
         told.equal("both sides of a resolver", run(top, both_sides()), (0, BOTH_SIDES, ""))
         of_addresses(told, top)
+        of_forged_replies(told, top)
         for order, last in (((0, 1, 2), "012"), ((2, 1, 0), "012"), ((0, 0, 2, 1, 1), "013")):
             name = f"TCP in pieces, {order}"
             told.equal(name, run(top, by_tcp(order)), (0, BY_TCP.replace("{last}", last) + OTHER_TOLD, ""))
