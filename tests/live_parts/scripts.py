@@ -95,6 +95,21 @@ at 1795752011 lookup mail.example.test. MX
 """
 
 WWW = "www.example.test. 60 IN A 192.0.2.1"
+# A reply as dig prints it.
+ONE = """
+; <<>> DiG 9.18.24 <<>> www.example.test
+;; ->>HEADER<<- opcode: QUERY, status: NOERROR, id: 29010
+;; flags: qr rd ra; QUERY: 1, ANSWER: 1, AUTHORITY: 0, ADDITIONAL: 0
+
+;; QUESTION SECTION:
+;{owner}\tIN A
+
+;; ANSWER SECTION:
+{owner}\t60 IN\t{data}
+
+{when}
+"""
+WHEN = ";; WHEN: Fri Nov 27 04:00:00 UTC 2026"
 CLIENT, SERVER = (4, "192.0.2.10", 40000), (4, "192.0.2.53", 53)
 CLIENT_6, SERVER_6 = (6, "2001:db8::10", 40000), (6, "2001:db8::53", 53)
 PCAP_REPLAYED = """at 100 lookup alias.example.test. A
@@ -124,6 +139,7 @@ def run(cases, programs, folder):
         script.write_text(tools.run("dig2script", told)[1])
         cases.equal("dig2script", tools.replayed(programs.replay, script), DIG_REPLAYED)
         cases.equal("dig2script, of nothing", tools.run("dig2script", "/dev/null")[:2], (1, ""))
+        of_moments(cases, folder)
     for link, frame in LINKS.items():
         with cases.guard(f"pcap2script, link type {link}"):
             captured(cases, programs, folder, link, frame)
@@ -142,8 +158,26 @@ def captured(cases, programs, folder, link, frame):
     cases.tell(f"pcap2script, link type {link}: notes", PCAP_NOTES in text, text)
 
 
+def one(owner="www.example.test.", data="A 192.0.2.1", when=WHEN):
+    return ONE.format(owner=owner, data=data, when=when).encode()
+
+
+def of_moments(cases, folder):
+    """Where dig does not tell when, or in another language."""
+    for when in (";; WHEN: Mi Dez 02 04:00:00 CET 2026", ";; WHEN: mer. déc. 02 04:00:00 CET 2026"):
+        status, text, said = tools.run("dig2script", make(folder, "odd", one(when=when)))
+        cases.tell(f"dig2script, {when}", (status, text) == (1, "") and "run dig with LC_ALL=C" in said, (text, said))
+    cases.equal("dig2script, no moment", made_of(folder, "dig2script", one(when="")), f"""\
+# Of a reply dig told no moment: it counts as that of the reply before it, or else as 0.
+upstream table
+reply NOERROR www.example.test. A IN
+answer {WWW}
+at 0 lookup www.example.test. A
+""")
+
+
 def of_odd_captures(cases, folder):
-    """Cases of the whole script, but for the comments that stand above each."""
+    """Captures of a question or two."""
     query, reply = (message(1, "www.example.test.", "A", *answers) for answers in ((), (WWW,)))
     asked, answered = (100, 4, datagram(CLIENT, SERVER, query)), (100, 4, datagram(SERVER, CLIENT, reply))
     whole = f"""upstream table
@@ -152,13 +186,13 @@ answer {WWW}
 at 100 lookup www.example.test. A
 """
     cut = capture(101, LINKS[101], [asked, answered, asked])[:-1]
-    cases.equal("pcap2script, a capture that is cut short", made_of(folder, cut),
+    cases.equal("pcap2script, a capture that is cut short", made_of(folder, "pcap2script", cut),
                 "# The capture is cut short: its last packet is left out.\n" + whole)
 
 
-def made_of(folder, data):
-    text = tools.run("pcap2script", make(folder, "odd", data))[1]
-    return text.partition("# those that an alias led to.\n")[2]
+def made_of(folder, tool, data):
+    """The script that a tool makes, without the comments that stand above each."""
+    return tools.run(tool, make(folder, "odd", data))[1].partition("those that an alias led to.\n")[2]
 
 
 def make(folder, name, data):
