@@ -140,6 +140,8 @@ def run(cases, programs, folder):
         cases.equal("dig2script", tools.replayed(programs.replay, script), DIG_REPLAYED)
         cases.equal("dig2script, of nothing", tools.run("dig2script", "/dev/null")[:2], (1, ""))
         of_moments(cases, folder)
+        of_brackets(cases, folder)
+        of_commands(cases, folder)
     for link, frame in LINKS.items():
         with cases.guard(f"pcap2script, link type {link}"):
             captured(cases, programs, folder, link, frame)
@@ -174,6 +176,38 @@ reply NOERROR www.example.test. A IN
 answer {WWW}
 at 0 lookup www.example.test. A
 """)
+
+
+def of_brackets(cases, folder):
+    """A name that holds one, and a record of several lines that is cut."""
+    cases.equal("dig2script, an escaped bracket", made_of(folder, "dig2script", one(owner=r"foo\(bar.example.")), r"""
+upstream table
+reply NOERROR foo\040bar.example. A IN
+answer foo\040bar.example. 60 IN A 192.0.2.1
+at 1795752000 lookup foo\040bar.example. A
+""".lstrip("\n"))
+    cut = make(folder, "odd", one(data="SOA ns.example.test. admin.example.test. ( 1 2"))
+    status, text, said = tools.run("dig2script", cut)
+    cases.tell("dig2script, a record that is cut", (status, text) == (1, "") and "no end" in said, (text, said))
+
+
+def of_commands(cases, folder):
+    """What is asked by a command line to which no reply came, by the manual of dig. Where it cannot be known, a comment
+    says so."""
+    commands = {
+        "CH TXT version.bind": "version.bind. TXT CH",
+        "-c CH -t TXT version.bind": "version.bind. TXT CH",
+        "-tMX example.test -p5300": "example.test. MX IN",
+        "-qexample.test -cCH": "example.test. A CH",
+        "-m example.test": "example.test. A IN",
+        "-x192.0.2.1": "1.2.0.192.in-addr.arpa. PTR IN",
+        "-x 192.0.2": None,
+    }
+    for command, question in commands.items():
+        lost = one() + f"; <<>> DiG 9.18.24 <<>> {command}\n;; no servers could be reached\n".encode()
+        text = made_of(folder, "dig2script", lost)
+        wanted = f"fail timeout {question}\n" if question else "# A question had no reply. Which one it was,"
+        cases.tell(f"dig2script, {command}", text.count(wanted) == 1 and text.count("fail ") == bool(question), text)
 
 
 def of_odd_captures(cases, folder):
