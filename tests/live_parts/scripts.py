@@ -222,6 +222,34 @@ at 100 lookup www.example.test. A
     cut = capture(101, LINKS[101], [asked, answered, asked])[:-1]
     cases.equal("pcap2script, a capture that is cut short", made_of(folder, "pcap2script", cut),
                 "# The capture is cut short: its last packet is left out.\n" + whole)
+    bare = (100, 4, datagram(SERVER, CLIENT, without_question(1)))
+    cases.equal("pcap2script, a reply without its question", script_of(folder, asked, bare), """upstream table
+reply FORMERR www.example.test. A IN noq
+at 100 lookup www.example.test. A
+""")
+    unread = "# Packets that are no whole message of DNS by UDP, and are left out: 1\n"
+    left_out = "# Left out, since a reply to it could not be read: www.example.test. {} IN\nupstream table\n"
+    cut = (100, 4, datagram(SERVER, CLIENT, reply[:-1]))
+    cases.equal("pcap2script, a reply that is cut", script_of(folder, asked, cut), unread + left_out.format("A"))
+    cases.equal("pcap2script, a whole one behind it", script_of(folder, asked, cut, answered), unread + whole)
+    query = message(1, "www.example.test.", "TXT")
+    texts = (100, 4, datagram(CLIENT, SERVER, query)), (100, 4, datagram(SERVER, CLIENT, of_no_string(query)))
+    cases.equal("pcap2script, a TXT record of no string", script_of(folder, *texts), unread + left_out.format("TXT"))
+
+
+def without_question(ident):
+    """A reply that has none: FORMERR, as it is from a server that could not read the query."""
+    return struct.pack(">6H", ident, 0x8001, 0, 0, 0, 0)
+
+
+def of_no_string(query):
+    """A reply with a record of TXT without data, for which no script has words (RFC 1035, section 3.3.14)."""
+    head = struct.pack(">6H", 1, 0x8000, 1, 1, 0, 0)
+    return head + query[12:] + struct.pack(">3HIH", 0xC00C, 16, 1, 60, 0)
+
+
+def script_of(folder, *packets):
+    return made_of(folder, "pcap2script", capture(101, LINKS[101], packets))
 
 
 def made_of(folder, tool, data):

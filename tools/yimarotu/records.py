@@ -130,19 +130,18 @@ def section_lines(message):
     return [f"{word} {record_line(rrset, rdata)}" for word, rrsets in sections for rrset in rrsets for rdata in rrset]
 
 
-def reply_line(message):
+def reply_line(message, question=". A IN"):
+    """The line that opens a reply. Where it has no question, these words stand for it."""
     if message.question:
         asked = message.question[0]
         question = f"{name_text(asked.name)} {type_word(asked.rdtype)} {class_word(asked.rdclass)}"
-    else:
-        question = ". A IN"
     marks = (" tc" if message.flags & dns.flags.TC else "") + ("" if message.question else " noq")
     return f"reply {code_word(message.rcode())} {question}{marks}"
 
 
-def outcome_lines(message):
+def outcome_lines(message, *question):
     """A reply as a script has it: the line that opens it, and its records."""
-    return [reply_line(message), *section_lines(message)]
+    return [reply_line(message, *question), *section_lines(message)]
 
 
 def read_message(wire):
