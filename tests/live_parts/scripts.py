@@ -232,9 +232,28 @@ at 100 lookup www.example.test. A
     cut = (100, 4, datagram(SERVER, CLIENT, reply[:-1]))
     cases.equal("pcap2script, a reply that is cut", script_of(folder, asked, cut), unread + left_out.format("A"))
     cases.equal("pcap2script, a whole one behind it", script_of(folder, asked, cut, answered), unread + whole)
+    for version, packets in (("4", fragments_4(query, reply)), ("6", fragments_6(query, reply))):
+        cases.equal(f"pcap2script, a reply in fragments of IPv{version}", script_of(folder, *packets),
+                    unread.replace("1", "2") + left_out.format("A"))
     query = message(1, "www.example.test.", "TXT")
     texts = (100, 4, datagram(CLIENT, SERVER, query)), (100, 4, datagram(SERVER, CLIENT, of_no_string(query)))
     cases.equal("pcap2script, a TXT record of no string", script_of(folder, *texts), unread + left_out.format("TXT"))
+
+
+def fragments_4(query, reply):
+    """A question and its reply in two fragments: the offset is in units of eight octets (RFC 791)."""
+    data = udp(SERVER, CLIENT, reply)
+    yield 100, 4, datagram(CLIENT, SERVER, query)
+    yield 100, 4, packet_4(SERVER, CLIENT, 17, data[:40], fragment=0x2000)
+    yield 100, 4, packet_4(SERVER, CLIENT, 17, data[40:], fragment=40 // 8)
+
+
+def fragments_6(query, reply):
+    """The same with a header for each fragment (RFC 8200, section 4.5)."""
+    data = udp(SERVER_6, CLIENT_6, reply)
+    yield 100, 6, datagram(CLIENT_6, SERVER_6, query)
+    yield 100, 6, packet_6(SERVER_6, CLIENT_6, 44, struct.pack(">2BHI", 17, 0, 1, 7) + data[:40])
+    yield 100, 6, packet_6(SERVER_6, CLIENT_6, 44, struct.pack(">2BHI", 17, 0, 40, 7) + data[40:])
 
 
 def without_question(ident):
@@ -291,11 +310,11 @@ def seen():
     yield 103, 6, datagram(CLIENT_6, SERVER_6, message(3, "example.test.", "MX"))
     yield 103, 6, datagram(SERVER_6, CLIENT_6, mail)
     yield 104, 4, datagram(CLIENT, SERVER, lost)
-    # Of another port, of TCP, no message, and a fragment.
+    # Of another port, of TCP, no message, and a fragment that is not the first.
     yield 104, 4, datagram(CLIENT, (4, "192.0.2.53", 123), b"time")
     yield 105, 4, packet_4(CLIENT, SERVER, 6, bytes(20))
     yield 105, 4, datagram(SERVER, CLIENT, b"\0\1\x81\x80\0\1")
-    yield 105, 4, packet_4(SERVER, CLIENT, 17, bytes(20), fragment=0x2000)
+    yield 105, 4, packet_4(SERVER, CLIENT, 17, bytes(20), fragment=0x2001)
 
 
 def message(ident, name, rdtype, *answers):
@@ -309,9 +328,12 @@ def message(ident, name, rdtype, *answers):
     return response.to_wire()
 
 
+def udp(source, target, payload):
+    return struct.pack(">4H", source[2], target[2], 8 + len(payload), 0) + payload
+
+
 def datagram(source, target, payload):
-    udp = struct.pack(">4H", source[2], target[2], 8 + len(payload), 0) + payload
-    return (packet_4 if source[0] == 4 else packet_6)(source, target, 17, udp)
+    return (packet_4 if source[0] == 4 else packet_6)(source, target, 17, udp(source, target, payload))
 
 
 def packet_4(source, target, protocol, data, fragment=0):

@@ -12,8 +12,9 @@ LINK_BYTES = {0: 4, 108: 4, 12: 0, 14: 0, 101: 0, 228: 0, 229: 0, 113: 16, 276: 
 VLAN_TAGS = (0x8100, 0x88A8)
 IP_TYPES = (0x0800, 0x86DD)
 TCP, UDP = 6, 17
-# Headers of IPv6 that may stand before that of UDP: hop-by-hop, routing, destination options.
-IPV6_OPTIONS = (0, 43, 60)
+FRAGMENT = 44
+# Headers of IPv6 that may stand before that of UDP: hop-by-hop, routing, destination options, and that of a fragment.
+IPV6_OPTIONS = (0, 43, 60, FRAGMENT)
 
 
 class NoCapture(ValueError):
@@ -90,8 +91,8 @@ def read_datagram(second, packet):
 
 def read_ipv4(packet):
     length, fragment = struct.unpack_from(">2xH2xH", packet)
-    # A fragment has an offset, or more fragments behind it.
-    if fragment & 0x3FFF:
+    # The first fragment of a packet holds its ports, and counts as a packet that is cut short.
+    if fragment & 0x1FFF:
         raise OtherPacket
     # A capture of a machine's own packets may lack their length.
     rest = packet[(packet[0] & 15) * 4:length or None]
@@ -105,5 +106,7 @@ def read_ipv6(packet):
     # Behind its end there may be a trailer of the link. A large packet of a machine's own has the length 0.
     following, rest = packet[6], packet[40:40 + length if length else None]
     while following in IPV6_OPTIONS:
+        if following == FRAGMENT and struct.unpack_from(">2xH", rest)[0] >> 3:
+            raise OtherPacket
         following, rest = rest[0], rest[(rest[1] + 1) * 8:]
     return following, ipaddress.IPv6Address(packet[8:24]), ipaddress.IPv6Address(packet[24:40]), rest
