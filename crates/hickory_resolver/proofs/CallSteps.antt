@@ -24,8 +24,10 @@ use Rattle.hickory_resolver_theorems.specs.ResumingCalls.{Continues, by_hosts, w
 use Rattle.hickory_resolver_theorems.specs.ResumingCalls.{no_name, ContinuesAfter, StartsNames, with_result, at_next}
 use Rattle.hickory_resolver.specs.declared.attempting.Attempt.{Attempt}
 use Rattle.hickory_resolver.specs.CallSteps.{first_of, first_question, CallStepValue, Goes, Over, LooksUpOnce}
-use Rattle.hickory_resolver.specs.CallSteps.{ComesAfter, IsBegunWith, IsReady, IsReadyAfter, ContinuesFrom, kept_name_for}
-use Rattle.hickory_resolver.specs.CallSteps.{order_of, attempt_value, first_type, results_so_far, second_of}
+use Rattle.hickory_resolver_attempts.specs.Sought.{kept_name_for}
+use Rattle.hickory_resolver.specs.CallSteps.{ComesAfter, IsBegunWith, IsReady, IsReadyAfter, ContinuesFrom}
+use Rattle.hickory_resolver_attempts.specs.Sought.{order_of, first_type, results_so_far}
+use Rattle.hickory_resolver.specs.CallSteps.{attempt_value, second_of}
 use Rattle.hickory_resolver.specs.CallSteps.{count_kept, turns_left, IsFewer}
 
 module _ (s : CallContext) where

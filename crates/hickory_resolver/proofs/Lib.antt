@@ -4,6 +4,5 @@ pub mod DrivenCalls
 pub mod Explained
 pub mod FirstCaches
 pub mod KeptSteps
-pub mod LastPlaces
 pub mod ServedRuns
 pub mod Starting

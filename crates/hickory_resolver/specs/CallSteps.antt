@@ -1,5 +1,5 @@
 -- How the code of a call goes on: what it keeps between two sub-look-ups, and what each of its steps comes to.
-use Rattle.std.specs.Prelude.{◌≡◌, ◌⊎◌, ◌<◌, ◌+◌, ◌*◌, ℕ, Bool, true, false, codes, List}
+use Rattle.std.specs.Prelude.{◌≡◌, ◌⊎◌, ◌<◌, ◌+◌, ◌*◌, ℕ, Bool, true, List}
 use Rattle.std.specs.Prelude.{[], ◌∷◌, length, reverse, Option, Some, None, Ok, Err}
 use Rattle.std.specs.Option.{option_map}
 use Rattle.hickory_proto_core.specs.Name.{NameValue}
@@ -8,41 +8,19 @@ use Rattle.hickory_proto_core.specs.codes.record_type.RecordType.{RecordType}
 use Rattle.hickory_proto_core.specs.declared.query.Query.{Query}
 use Rattle.hickory_proto_core.specs.declared.record_data.RData.{RData}
 use Rattle.hickory_proto_core.specs.declared.net_error.NetError.TheVariants.{OutOfMemory}
+use Rattle.hickory_resolver_attempts.specs.Sought.{asks_for_all, kept_name_for, no_names_of, order_of, results_so_far}
+use Rattle.hickory_resolver_attempts.specs.declared.sought.Sought.{Sought}
 use Rattle.hickory_resolver_client.specs.Contexts.{progress_of}
 use Rattle.hickory_resolver_model.specs.Cache.{CacheValue}
-use Rattle.hickory_resolver_model.specs.Calls.{CallContext, context_over, FamilyOrder, One, Both, Fallback, CallPlan, last_resort}
+use Rattle.hickory_resolver_model.specs.Calls.{CallContext, context_over, CallPlan, last_resort}
 use Rattle.hickory_resolver_model.specs.Hosts.{HostsHave, NotInHosts}
 use Rattle.hickory_resolver_model.specs.Lookup.{LookupValue, LookupResult, question_of}
 use Rattle.hickory_resolver_model.specs.Hops.{PassedValue}
 use Rattle.hickory_resolver_model.specs.Resuming.{WaitingValue, ProgressValue, Waits, IsDone, Starts}
-use Rattle.hickory_resolver_model.specs.Run.{family_order}
 use Rattle.hickory_resolver_theorems.specs.ResumingCalls.{AttemptValue, CallProgressValue, Continues, ContinuesAfter}
-use Rattle.hickory_resolver.specs.declared.attempting.Sought.{Sought}
-use Rattle.hickory_resolver.specs.declared.attempting.Sought.TheVariants.{Records, Addresses}
-use Rattle.hickory_resolver.specs.declared.attempting.Types.{Types}
-use Rattle.hickory_resolver.specs.declared.attempting.Types.TheVariants as types
 use Rattle.hickory_resolver.specs.declared.attempting.Attempt.{Attempt}
 use Rattle.hickory_resolver.specs.declared.attempting.CallStep.{CallStep}
 use Rattle.hickory_resolver.specs.declared.attempting.CallStep.TheVariants as step
-
--- ---- what is looked up
-
-abbrev pub order_value : Types → FamilyOrder
-order_value (types.One t) = One t
-order_value (types.Both t u) = Both t u
-order_value (types.Fallback t u) = Fallback t u
-
-abbrev pub order_of : Sought → FamilyOrder
-order_of (Records t) = One t
-order_of (Addresses strategy) = family_order strategy
-
-abbrev pub asks_for_all : Sought → Bool
-asks_for_all (Records t) = false
-asks_for_all (Addresses strategy) = true
-
-abbrev pub no_names_of : Sought → List ℕ
-no_names_of (Records t) = codes "can not lookup for no names"
-no_names_of (Addresses strategy) = codes "can not lookup IPs for no names"
 
 -- what a call does with each name, whose moment this is
 abbrev pub plan_value : Sought → Option RData → ℕ → CallPlan
@@ -52,24 +30,6 @@ plan_value sought literal now = record {
   literal = option_map (λ rdata. last_resort (data_of rdata) now) literal;
   no_names = no_names_of sought;
 }
-
--- the first type of a name
-abbrev pub first_type : FamilyOrder → RecordType
-first_type (One t) = t
-first_type (Both t u) = t
-first_type (Fallback t u) = t
-
--- the name once more, while the first type is looked up and a second one may follow
-abbrev pub kept_name_for : FamilyOrder → Option LookupResult → NameValue → Option NameValue
-kept_name_for (One t) first name = None
-kept_name_for (Both t u) None name = Some name
-kept_name_for (Both t u) (Some r) name = None
-kept_name_for (Fallback t u) None name = Some name
-kept_name_for (Fallback t u) (Some r) name = None
-
-abbrev pub results_so_far : Option LookupResult → List LookupResult
-results_so_far None = []
-results_so_far (Some r) = r ∷ []
 
 -- a type that is looked up next, with the name
 abbrev pub second_of : NameValue → Option RecordType → Option (NameValue × RecordType)

@@ -1,48 +1,26 @@
 //! Attempts at several names, one after another, without I/O: what a call does until it waits or is done.
 ghost use Rattle.std.specs.Prelude.{◌≡◌, ◌*◌, ℕ, length, [], ◌∷◌, ◌++◌, None, Some, false};
-ghost use Rattle.std.specs.Prelude.{true, IfOk, IfSome, IsOkUnless, IsTrue, Err};
+ghost use Rattle.std.specs.Prelude.{true, IfSome, IsTrue};
 ghost use Rattle.std.specs.Option.{option_map};
 ghost use Rattle.hickory_proto_core.specs.Name.{NameValue};
 ghost use Rattle.hickory_proto_core.specs.Records.{data_of};
-ghost use Rattle.hickory_proto_core.specs.declared.net_error.NetError.TheVariants.{OutOfMemory};
-ghost use Rattle.hickory_resolver_model.specs.Calls.{IsAttemptResult, IsLastReply, Says, last_resort, next_type, stops};
+ghost use Rattle.hickory_resolver_model.specs.Calls.{IsLastReply, last_resort, next_type};
 ghost use Rattle.hickory_resolver_model.specs.Client.{KeepsHandle};
 ghost use Rattle.hickory_resolver_model.specs.Hosts.{NotInHosts};
 ghost use Rattle.hickory_resolver_model.specs.Resolver.{call_context_of};
 ghost use Rattle.hickory_resolver_theorems.specs.ResumingCalls.{with_result};
-ghost use Rattle.hickory_resolver.specs.CallSteps.{order_value, first_type, kept_name_for, order_of, asks_for_all};
-ghost use Rattle.hickory_resolver.specs.CallSteps.{no_names_of, results_so_far, LooksUpOnce, ContinuesFrom, IsFewer};
+ghost use Rattle.hickory_resolver_attempts.specs.Sought.{kept_name_for, order_of, results_so_far};
+ghost use Rattle.hickory_resolver.specs.CallSteps.{LooksUpOnce, ContinuesFrom, IsFewer};
 ghost use Rattle.hickory_resolver.specs.CallSteps.{attempt_value, first_value, second_of, step_of, turns_left};
 
 use crate::literals::last_resort;
-use crate::results::{attempt_result, is_out_of_memory, stops};
 use hickory_proto_core::{DnsHandle, Name, NetError, Query, RData, RecordType};
+use hickory_resolver_attempts::{Sought, attempt_result, stops};
 use hickory_resolver_client::{CachingClient, Progress, Waiting};
-use hickory_resolver_config::LookupIpStrategy;
 use hickory_resolver_hosts::Hosts;
 use hickory_resolver_lookup::Lookup;
 use std::alloc::Global;
 use std::hash::BuildHasher;
-
-/// What a call looks up for each of its names.
-#[derive(Clone, Copy)]
-pub enum Sought {
-    /// Records of a type. The table of hosts is asked for the first name alone.
-    Records(RecordType),
-    /// Addresses. The table of hosts is asked for every name.
-    Addresses(LookupIpStrategy),
-}
-
-/// The types that are looked up for a name.
-#[derive(Clone, Copy)]
-pub enum Types {
-    /// One.
-    One(RecordType),
-    /// Both, whose results are made one.
-    Both(RecordType, RecordType),
-    /// The first, and the second where the first has no answers.
-    Fallback(RecordType, RecordType),
-}
 
 /// A call at one of its names.
 #[derive(Drop)]
@@ -70,80 +48,6 @@ pub enum CallStep {
     Over(Result<Lookup, NetError>),
 }
 
-impl Sought {
-    /// The types that are looked up for a name.
-    pub fn types(self) -> Types
-        ensures { order_value result ≡ order_of self }
-    {
-        let (v4, v6) = (RecordType::A, RecordType::AAAA);
-        match self {
-            Sought::Records(record_type) => Types::One(record_type),
-            Sought::Addresses(LookupIpStrategy::Ipv4Only) => Types::One(v4),
-            Sought::Addresses(LookupIpStrategy::Ipv6Only) => Types::One(v6),
-            Sought::Addresses(LookupIpStrategy::Ipv4AndIpv6) => Types::Both(v4, v6),
-            Sought::Addresses(LookupIpStrategy::Ipv6AndIpv4) => Types::Both(v6, v4),
-            Sought::Addresses(LookupIpStrategy::Ipv6thenIpv4) => Types::Fallback(v6, v4),
-            Sought::Addresses(LookupIpStrategy::Ipv4thenIpv6) => Types::Fallback(v4, v6),
-        }
-    }
-
-    /// Whether the table of hosts is asked for every name.
-    pub fn asks_hosts_for_all(self) -> bool
-        ensures { result ≡ asks_for_all self }
-    {
-        matches!(self, Sought::Addresses(_))
-    }
-
-    // What is said where there is no name.
-    pub fn no_names(self) -> NetError
-        ensures { Says (no_names_of self) (Err result) }
-    {
-        match self {
-            Sought::Records(_) => NetError::from("can not lookup for no names"),
-            Sought::Addresses(_) => NetError::from("can not lookup IPs for no names"),
-        }
-    }
-}
-
-impl Types {
-    /// The type that is looked up first.
-    pub fn first(self) -> RecordType
-        ensures { result ≡ first_type (order_value self) }
-    {
-        match self {
-            Types::One(first) | Types::Both(first, _) | Types::Fallback(first, _) => first,
-        }
-    }
-
-    // The name once more, where a second type may follow.
-    fn kept_name(self, name: &Name) -> Result<Option<Name>, NetError>
-        ensures ok { IfOk result (λ kept_name. kept_name ≡ kept_name_for (order_value self) None name.now) }
-        ensures err { IsOkUnless result OutOfMemory }
-    {
-        match self {
-            Types::One(_) => Ok(None),
-            Types::Both(_, _) | Types::Fallback(_, _) => Ok(Some(name.clone()?)),
-        }
-    }
-
-    // The type that is looked up after the result of the first.
-    fn second(self, first: &Result<Lookup, NetError>) -> Option<RecordType>
-        ensures { result ≡ next_type (order_value self) (first.now ∷ []) }
-    {
-        match self {
-            Types::One(_) => None,
-            Types::Both(_, second) => match is_out_of_memory(first) {
-                true => None,
-                false => Some(second),
-            },
-            Types::Fallback(_, second) => match stops(first) {
-                true => None,
-                false => Some(second),
-            },
-        }
-    }
-}
-
 impl Attempt {
     /// Begins with a name.
     pub fn begin<H: DnsHandle, S: BuildHasher, T: BuildHasher>(
@@ -165,7 +69,10 @@ impl Attempt {
                 self.kept_name = kept_name;
                 look_up(name, types.first(), self.with_hosts, client, hosts, now)
             }
-            Err(error) => CallStep::Over(Err(error)),
+            Err(error) => {
+                drop(name);
+                CallStep::Over(Err(error))
+            }
         }
     }
 

@@ -8,9 +8,10 @@ ghost use Rattle.hickory_resolver_theorems.specs.ResumingCalls.{ContinuesAfter, 
 ghost use Rattle.hickory_resolver.specs.CallSteps.{IsReady, attempt_value, plan_value};
 ghost use Rattle.hickory_resolver.specs.Driving.{AdvancesCall};
 
-use crate::attempting::{Attempt, CallStep, Sought, last_reply};
+use crate::attempting::{Attempt, CallStep, last_reply};
 use crate::waiting_call::{CallProgress, WaitingCall};
 use hickory_proto_core::{DnsHandle, DnsRequestOptions, Name, Outcome, RData};
+use hickory_resolver_attempts::Sought;
 use hickory_resolver_client::{CachingClient, Progress, Waiting};
 use hickory_resolver_hosts::Hosts;
 use std::hash::BuildHasher;

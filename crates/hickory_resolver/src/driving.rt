@@ -5,10 +5,10 @@ ghost use Rattle.hickory_resolver_model.specs.Resolver.{LooksUp};
 ghost use Rattle.hickory_resolver.specs.CallSteps.{plan_value};
 ghost use Rattle.hickory_resolver.specs.Driving.{EndsNames, IsGiven};
 
-use crate::attempting::Sought;
 use crate::calling::{advance_call, start_names};
 use crate::waiting_call::CallProgress;
 use hickory_proto_core::{DnsHandle, DnsRequestOptions, Name, NetError, RData};
+use hickory_resolver_attempts::Sought;
 use hickory_resolver_client::{CachingClient, Progress};
 use hickory_resolver_hosts::Hosts;
 use hickory_resolver_lookup::Lookup;

@@ -1,11 +1,12 @@
 //! What a request attempts, and who answers it as things stand.
 ghost use Rattle.std.specs.Prelude.{◌≡◌, ◌∷◌, ◌++◌, [], IfOk, OnOk};
 ghost use Rattle.hickory_resolver_model.specs.Lookup.{question_of};
-ghost use Rattle.hickory_resolver.specs.CallSteps.{asks_for_all, order_of};
+ghost use Rattle.hickory_resolver_attempts.specs.Sought.{asks_for_all, order_of};
 ghost use Rattle.hickory_resolver.specs.Explaining.{AreAnswered, IsAnsweredBy, answered_by_client, name_questions, names_questions, planned_value, planned_values};
 
-use crate::attempting::{Sought, Types, skips_hosts};
+use crate::attempting::skips_hosts;
 use hickory_proto_core::{Name, Query, RecordType};
+use hickory_resolver_attempts::{Sought, Types};
 use hickory_resolver_cache::ResponseCache;
 use hickory_resolver_client::is_special_use;
 use hickory_resolver_hosts::Hosts;

@@ -12,9 +12,7 @@ pub mod lookup_future;
 pub mod lookup_ip_future;
 pub mod resolver;
 pub mod resolver_builder;
-mod results;
 pub mod runs;
-pub mod search;
 mod serve;
 mod serves;
 pub mod transcript;
@@ -60,6 +58,11 @@ pub mod lookup_ip {
 /// Requests of a run.
 pub mod request {
     pub use hickory_resolver_lookup::Request;
+}
+
+/// The names that are attempted for a name.
+pub mod search {
+    pub use hickory_resolver_attempts::attempts;
 }
 
 pub use cache::{MAX_TTL, ResponseCache, TtlBounds, TtlConfig};

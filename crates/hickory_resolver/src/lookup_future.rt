@@ -3,9 +3,9 @@ ghost use Rattle.std.specs.Prelude.{[], false, true, reverse};
 ghost use Rattle.hickory_resolver_model.specs.Resolver.{LooksUp};
 ghost use Rattle.hickory_resolver_model.specs.Run.{name_plan};
 
-use crate::attempting::Sought;
 use crate::driving::look_up_names;
 use hickory_proto_core::{DnsHandle, DnsRequestOptions, Name, NetError, RecordType};
+use hickory_resolver_attempts::Sought;
 use hickory_resolver_client::CachingClient;
 use hickory_resolver_hosts::Hosts;
 use hickory_resolver_lookup::Lookup;

@@ -6,10 +6,10 @@ ghost use Rattle.hickory_resolver_model.specs.Calls.{last_resort};
 ghost use Rattle.hickory_resolver_model.specs.Resolver.{LooksUp};
 ghost use Rattle.hickory_resolver_model.specs.Run.{address_plan};
 
-use crate::attempting::Sought;
 use crate::driving::look_up_names;
 use crate::literals::as_addresses;
 use hickory_proto_core::{DnsHandle, DnsRequestOptions, Name, NetError, RData};
+use hickory_resolver_attempts::Sought;
 use hickory_resolver_client::CachingClient;
 use hickory_resolver_config::LookupIpStrategy;
 use hickory_resolver_hosts::Hosts;

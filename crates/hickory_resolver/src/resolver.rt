@@ -15,24 +15,24 @@ ghost use Rattle.hickory_resolver_model.specs.Resolver.{after_clear_lookup, sett
 ghost use Rattle.hickory_resolver_model.specs.Resuming.{IsDone};
 ghost use Rattle.hickory_resolver_model.specs.Run.{Attempt, address_call, address_plan, drop_each};
 ghost use Rattle.hickory_resolver_theorems.specs.CallFacts.{KeepsWhatIsKnown, PromisesHost, PromisesName};
-ghost use Rattle.hickory_resolver.specs.CallSteps.{asks_for_all, plan_value, order_of};
+ghost use Rattle.hickory_resolver_attempts.specs.Sought.{asks_for_all, order_of};
+ghost use Rattle.hickory_resolver.specs.CallSteps.{plan_value};
 ghost use Rattle.hickory_resolver.specs.Driving.{EndsCall, IsGiven};
 ghost use Rattle.hickory_resolver.specs.Explaining.{Explains, ExplainsHost, ExplainsNamed};
 ghost use Rattle.hickory_resolver_lookup.specs.Requests.{request_of};
 ghost use Rattle.hickory_resolver.specs.Starting.{ResumesAt, StartsAt, StartsHost, StartsName};
 
-use crate::attempting::Sought;
 use crate::calling::{resume_call, start_names};
 use crate::driving::drive;
 use crate::explaining::{Attempted, find_answerers, plan_questions};
 use crate::literals::{as_addresses, literal_at_once};
 use crate::resolver_builder::ResolverBuilder;
-use crate::search::attempts;
 use crate::waiting_call::{CallProgress, WaitingCall};
 use hickory_proto_core::{
     DnsHandle, DnsRequestOptions, IntoName, Name, NameError, NetError, Outcome, Query, RData,
     RecordType,
 };
+use hickory_resolver_attempts::{Sought, attempts};
 use hickory_resolver_cache::ResponseCache;
 use hickory_resolver_client::{CachingClient, Progress};
 use hickory_resolver_config::{LookupIpStrategy, ResolverConfig, ResolverOpts};

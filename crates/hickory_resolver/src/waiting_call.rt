@@ -23,7 +23,8 @@ pub struct WaitingCall {
 impl Model for WaitingCall {
     ghost use Rattle.std.specs.Prelude.{◌≡◌};
     ghost use Rattle.hickory_resolver_theorems.specs.ResumingCalls.{WaitingCallValue};
-    ghost use Rattle.hickory_resolver.specs.CallSteps.{kept_name_for, attempt_value, first_question, order_of};
+    ghost use Rattle.hickory_resolver_attempts.specs.Sought.{kept_name_for, order_of};
+    ghost use Rattle.hickory_resolver.specs.CallSteps.{attempt_value, first_question};
 
     ghost Value = { WaitingCallValue };
 

@@ -1,6 +1,6 @@
 use Rattle.std.proofs.Common.{◌≡◌, ◌++◌, drop}
 use Rattle.std.specs.List.{flat_map}
-use Rattle.hickory_resolver.specs.CallSteps.{asks_for_all, order_of}
+use Rattle.hickory_resolver_attempts.specs.Sought.{asks_for_all, order_of}
 use Rattle.hickory_resolver.specs.Explaining.{name_questions, planned_values}
 use Rattle.hickory_resolver.proofs.explaining.plan_questions.Given as goal
 

@@ -4,7 +4,8 @@ use Rattle.hickory_resolver_model.specs.Resuming.{IsDone}
 use Rattle.hickory_resolver_model.specs.Calls.{CallContext, FamilyOrder, next_type}
 use Rattle.hickory_resolver_model.specs.Resolver.{call_context_of}
 use Rattle.hickory_resolver.specs.declared.attempting.Attempt.{Attempt}
-use Rattle.hickory_resolver.specs.CallSteps.{kept_name_for, first_type, first_value, order_of}
+use Rattle.hickory_resolver_attempts.specs.Sought.{kept_name_for, first_type, order_of}
+use Rattle.hickory_resolver.specs.CallSteps.{first_value}
 use Rattle.hickory_resolver.proofs.CallSteps.{first_next, goes_by_look_up, refused}
 use Rattle.hickory_resolver.proofs.attempting.Attempt.begin.Goals as goal
 

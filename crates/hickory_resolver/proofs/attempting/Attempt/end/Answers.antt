@@ -3,7 +3,8 @@ use Rattle.hickory_resolver_model.specs.Calls.{CallContext, IsAttemptResult, Fam
 use Rattle.hickory_resolver_model.specs.Lookup.{LookupResult}
 use Rattle.hickory_resolver_model.specs.Resolver.{call_context_of}
 use Rattle.hickory_resolver_theorems.specs.ResumingCalls.{AttemptValue, with_result}
-use Rattle.hickory_resolver.specs.CallSteps.{ContinuesFrom, attempt_value, results_so_far, step_of, order_of}
+use Rattle.hickory_resolver_attempts.specs.Sought.{results_so_far, order_of}
+use Rattle.hickory_resolver.specs.CallSteps.{ContinuesFrom, attempt_value, step_of}
 use Rattle.hickory_resolver.proofs.CallSteps.{goes_last, goes_next, goes_over}
 use Rattle.hickory_resolver.proofs.attempting.Attempt.end.Goals as goal
 

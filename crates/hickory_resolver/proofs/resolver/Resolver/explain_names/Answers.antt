@@ -6,7 +6,7 @@ use Rattle.hickory_resolver_model.specs.Attempts.{attempts}
 use Rattle.hickory_resolver_model.specs.Cache.{CacheValue}
 use Rattle.hickory_resolver_model.specs.Hosts.{Host}
 use Rattle.hickory_resolver_model.specs.Resolver.{ResolverValue, settings}
-use Rattle.hickory_resolver.specs.CallSteps.{asks_for_all, order_of}
+use Rattle.hickory_resolver_attempts.specs.Sought.{asks_for_all, order_of}
 use Rattle.hickory_resolver.specs.Explaining.{AreAnswered, ExplainsNamed, names_questions}
 use Rattle.hickory_resolver.proofs.resolver.Resolver.explain_names.Goals as goal
 

@@ -2,7 +2,7 @@ use Rattle.std.proofs.Common.{◌≡◌, ◌++◌, drop}
 use Rattle.std.specs.List.{filter_map}
 use Rattle.std.specs.Option.{option_copied, option_to_list}
 use Rattle.hickory_resolver_model.specs.Attempts.{joined_name}
-use Rattle.hickory_resolver.proofs.search.joined_names.Given as goal
+use Rattle.hickory_resolver_attempts.proofs.search.joined_names.Given as goal
 
 abbrev pub invariant-loop-domain : goal.invariant-loop-domain
 invariant-loop-domain l =

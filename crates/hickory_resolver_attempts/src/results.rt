@@ -3,9 +3,9 @@ ghost use Rattle.std.specs.Prelude.{◌≡◌, ◌⊎◌, [], ◌∷◌, ◌++�
 ghost use Rattle.hickory_proto_core.specs.declared.net_error.NetError.TheVariants.{OutOfMemory};
 ghost use Rattle.hickory_resolver_model.specs.Calls.{IsAttemptResult, are_answers, both_results};
 ghost use Rattle.hickory_resolver_model.specs.Calls.{is_out_of_memory, next_type, stops};
-ghost use Rattle.hickory_resolver.specs.CallSteps.{results_so_far, order_value};
+ghost use Rattle.hickory_resolver_attempts.specs.Sought.{results_so_far, order_value};
 
-use crate::attempting::Types;
+use crate::sought::Types;
 use hickory_proto_core::NetError;
 use hickory_resolver_lookup::Lookup;
 

@@ -1,8 +1,8 @@
 use native.Mathlib.Omega.{arith}
 use Rattle.std.proofs.Common.{◌∙◌, map, refl, sym, ap}
 use Rattle.std.proofs.lemmas.List.{map_push}
-use Rattle.hickory_resolver.proofs.LastPlaces.{drop_back, in_order, moved, no_more, one_more}
-use Rattle.hickory_resolver.proofs.search.last_places.Goals as goal
+use Rattle.hickory_resolver_attempts.proofs.LastPlaces.{drop_back, in_order, moved, no_more, one_more}
+use Rattle.hickory_resolver_attempts.proofs.search.last_places.Goals as goal
 
 pub loop-i-preserved : goal.loop-i-preserved
 loop-i-preserved c =
