@@ -164,14 +164,42 @@ fn wait(
     ensures unchanged { OnErr result (requests.new.entries ≡ requests.old.entries) }
 {
     let mut begun = begun;
-    let (key, heard) = ask_next(alloc, options, mark, &mut begun, &waiting)?;
-    let in_flight = InFlight {
-        begun,
-        waiting,
-        reply: None,
-    };
-    put(requests, key, in_flight)?;
-    Ok(heard)
+    match ask_next(alloc, options, mark, &mut begun, &waiting) {
+        Ok((key, heard)) => {
+            let in_flight = InFlight {
+                begun,
+                waiting,
+                reply: None,
+            };
+            keep(requests, key, in_flight, heard)
+        }
+        Err(AllocError) => {
+            drop(begun);
+            drop(waiting);
+            Err(AllocError)
+        }
+    }
+}
+
+// Keeps a request under its mark, and tells this.
+fn keep(
+    requests: &mut HashMap<String, InFlight>,
+    key: String,
+    in_flight: InFlight,
+    heard: Heard,
+) -> Result<Heard, AllocError>
+    ensures told { IfOk result (λ told. told ≡ heard) }
+    ensures kept { OnOk result (Puts (string_bytes key) (Some (in_flight_of in_flight))
+        (requests_of requests.old.entries) (requests_of requests.new.entries)) }
+    ensures unchanged { OnErr result (requests.new.entries ≡ requests.old.entries) }
+{
+    match put(requests, key, in_flight) {
+        Ok(()) => Ok(heard),
+        Err(AllocError) => {
+            drop(heard);
+            Err(AllocError)
+        }
+    }
 }
 
 // The line of a question that is to be sent, with the key of its request, which notes it.

@@ -336,10 +336,14 @@ impl State {
             waiting,
             reply,
         } = in_flight;
-        let Some(reply) = reply else {
-            return Err(AllocError);
-        };
-        self.feed(mark, begun, waiting, outcome_of(reply))
+        match reply {
+            Some(reply) => self.feed(mark, begun, waiting, outcome_of(reply)),
+            None => {
+                drop(begun);
+                drop(waiting);
+                Err(AllocError)
+            }
+        }
     }
 
     // A request that was taken out goes on with what came back to its question.
@@ -353,18 +357,23 @@ impl State {
         ensures { IsFed (conversation_of self.old) mark.now (begun_of begun) waiting outcome result
             (conversation_of self.new) }
     {
-        let Some(resolver) = &mut self.resolver else {
-            return Err(AllocError);
-        };
-        go_on(
-            self.alloc,
-            resolver,
-            &mut self.requests,
-            mark,
-            begun,
-            waiting,
-            outcome,
-        )
+        match &mut self.resolver {
+            Some(resolver) => go_on(
+                self.alloc,
+                resolver,
+                &mut self.requests,
+                mark,
+                begun,
+                waiting,
+                outcome,
+            ),
+            None => {
+                drop(begun);
+                drop(waiting);
+                drop(outcome);
+                Err(AllocError)
+            }
+        }
     }
 
     // A line of an outcome, which is the first one or not.
@@ -444,10 +453,17 @@ impl State {
         let InFlight {
             mut begun,
             waiting,
-            ..
+            reply,
         } = in_flight;
-        begun.add_line(fields)?;
-        self.feed(mark, begun, waiting, Err(kind.error()))
+        drop(reply);
+        match begun.add_line(fields) {
+            Ok(()) => self.feed(mark, begun, waiting, Err(kind.error())),
+            Err(AllocError) => {
+                drop(begun);
+                drop(waiting);
+                Err(AllocError)
+            }
+        }
     }
 }
 

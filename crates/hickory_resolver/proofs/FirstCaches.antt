@@ -1,5 +1,5 @@
 -- The empty cache of a new resolver, the resolver that is made of it, and why there is none.
-use Rattle.std.proofs.Common.{◌≡◌, List, [], Option, None, Some, Result, Ok, Err, IfErr, refl, sym, ap, ◌∙◌, subst}
+use Rattle.std.proofs.Common.{◌≡◌, List, [], Option, None, Some, Result, Ok, Err, refl, sym, ap, ◌∙◌, subst}
 use Rattle.std.specs.Option.{option_map_or}
 use Rattle.hickory_proto_core.specs.declared.bounds_error.BoundsError.{BoundsError}
 use Rattle.hickory_proto_core.specs.declared.net_error.NetError.{NetError}
@@ -72,9 +72,7 @@ built_of {H} b config options handle same cache e hosts none made is =
     ap (λ r. Ok r) d.1 ∙ sym (ap by d.0) ∙ ap built same
 
 -- where the bounds are in order, there is no run only where memory ran out
-pub no_room : {A : Type 0} (fault : Option BoundsError) (result : Result A NetError) → fault ≡ None → result
-    ≡ Err OutOfMemory → IfErr result (IsNoRun fault)
-no_room {A} fault result none out =
-    let P : Result A NetError → Type 0 = λ r. IfErr r (IsNoRun fault) in
-    let Q : Option BoundsError → Type 0 = λ f. IsNoRun f OutOfMemory in
-    subst P (sym out) (subst Q (sym none) refl)
+pub no_room : (fault : Option BoundsError) → fault ≡ None → IsNoRun fault OutOfMemory
+no_room fault none =
+    let P : Option BoundsError → Type 0 = λ f. IsNoRun f OutOfMemory in
+    subst P (sym none) refl

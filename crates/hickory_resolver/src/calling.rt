@@ -45,7 +45,10 @@ pub fn start_names<H: DnsHandle, S: BuildHasher, T: BuildHasher>(
     };
     match attempt.begin(name, client, hosts, now) {
         CallStep::Goes(progress) => go_on(attempt, progress, client, hosts, now),
-        CallStep::Over(result) => Progress::Done(result),
+        CallStep::Over(result) => {
+            drop(attempt);
+            Progress::Done(result)
+        }
     }
 }
 
@@ -103,7 +106,10 @@ fn go_on<H: DnsHandle, S: BuildHasher, T: BuildHasher>(
             Progress::Waiting(lookup) => return Progress::Waiting(WaitingCall { attempt, lookup }),
             Progress::Done(result) => match attempt.take_result(result, client, hosts, now) {
                 CallStep::Goes(next) => progress = next,
-                CallStep::Over(result) => return Progress::Done(result),
+                CallStep::Over(result) => {
+                    drop(attempt);
+                    return Progress::Done(result);
+                }
             },
         }
     }

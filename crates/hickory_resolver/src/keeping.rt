@@ -35,6 +35,7 @@ impl Listener for StepKeeper {
         step: Step,
     ) -> Result<(), AllocError> {
         if self.steps.len() >= self.steps.capacity() {
+            drop(step);
             return Err(AllocError);
         }
         self.steps.push_reserved(step);

@@ -134,9 +134,17 @@ impl<H: DnsHandle + Drop, S: BuildHasher + Drop> ResolverBuilder<H, S> {
             hosts_hasher,
         } = self;
         let alloc = *config.search.allocator();
-        let cache = first_cache(alloc, &options, cache_hasher)?;
-        let hosts = Hosts::with_hasher(alloc, hosts_hasher);
-        Ok(Resolver::new(config, options, cache, handle, hosts))
+        match first_cache(alloc, &options, cache_hasher) {
+            Ok(cache) => {
+                let hosts = Hosts::with_hasher(alloc, hosts_hasher);
+                Ok(Resolver::new(config, options, cache, handle, hosts))
+            }
+            Err(error) => {
+                drop(config);
+                drop(options);
+                Err(error)
+            }
+        }
     }
 }
 

@@ -19,6 +19,7 @@ use hickory_proto_core::{DnsHandle, NetError, Recorded};
 use hickory_resolver_config::{ResolverConfig, ResolverOpts};
 use hickory_resolver_hosts::Hosts;
 use hickory_resolver_lookup::Request;
+use std::alloc::AllocError;
 use std::hash::{BuildHasher, BuildHasherDefault, FoldHasher};
 
 /// Serves requests in order by a new resolver with this configuration, these options and this table of hosts, over
@@ -64,8 +65,13 @@ pub fn run_with_hasher<H: DnsHandle + Drop, S: BuildHasher + Drop>(
 {
     let alloc = *config.search.allocator();
     let mut resolver = first_resolver(config, options, hosts, handle, cache_hasher)?;
-    let steps = keep_steps(alloc, &mut resolver, requests)?;
-    Ok(Transcript::new(steps, resolver))
+    match keep_steps(alloc, &mut resolver, requests) {
+        Ok(steps) => Ok(Transcript::new(steps, resolver)),
+        Err(AllocError) => {
+            drop(resolver);
+            Err(NetError::OutOfMemory)
+        }
+    }
 }
 
 /// As `run_with_hasher`, but no step is kept: this listener hears of each when it is made. An error of the listener
@@ -86,8 +92,13 @@ pub fn run_told<H: DnsHandle + Drop, S: BuildHasher + Drop, L: Listener + Drop>(
     ensures refused { IfErr result (IsNoRun (bounds_fault (bounds_of options))) }
 {
     let mut resolver = first_resolver(config, options, hosts, handle, cache_hasher)?;
-    serve_each(&mut resolver, &mut listener, requests)?;
-    Ok(Heard { resolver, listener })
+    match serve_each(&mut resolver, &mut listener, requests) {
+        Ok(()) => Ok(Heard { resolver, listener }),
+        Err(AllocError) => {
+            drop(resolver);
+            Err(NetError::OutOfMemory)
+        }
+    }
 }
 
 // A resolver before its first request, over a handle that keeps what it sends and what came back. Takes no memory.
@@ -103,7 +114,16 @@ fn first_resolver<H: DnsHandle + Drop, S: BuildHasher + Drop>(
         (IsNoRun (bounds_fault (bounds_of options))) }
 {
     let alloc = *config.search.allocator();
-    let cache = first_cache(alloc, &options, cache_hasher)?;
-    let handle = Recorded::new(alloc, handle);
-    Ok(resolver_over(config, options, cache, handle, hosts))
+    match first_cache(alloc, &options, cache_hasher) {
+        Ok(cache) => {
+            let handle = Recorded::new(alloc, handle);
+            Ok(resolver_over(config, options, cache, handle, hosts))
+        }
+        Err(error) => {
+            drop(config);
+            drop(options);
+            drop(hosts);
+            Err(error)
+        }
+    }
 }

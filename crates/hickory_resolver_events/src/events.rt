@@ -9,6 +9,7 @@ use hickory_proto_core::{DnsHandle, NetError, Outcome, Query, RecordType};
 use hickory_resolver::{CallProgress, Lookup, Resolver, WaitingCall};
 use std::alloc::AllocError;
 use std::hash::BuildHasher;
+use std::mem;
 
 /// What is done to a resolver. Calls have the numbers of their starts, from 0. Moments are seconds.
 #[derive(Drop)]
@@ -152,7 +153,10 @@ fn resume_at<H: DnsHandle, S: BuildHasher>(
 {
     match waiting.get_mut(call) {
         Some(place) => resume_in(resolver, place, outcome),
-        None => EventReply::NoCall,
+        None => {
+            drop(outcome);
+            EventReply::NoCall
+        }
     }
 }
 
@@ -166,7 +170,10 @@ fn resume_in<H: DnsHandle, S: BuildHasher>(
 {
     match place.take() {
         Some(waiting) => keep(place, resolver.resume(waiting, outcome)),
-        None => EventReply::NoCall,
+        None => {
+            drop(outcome);
+            EventReply::NoCall
+        }
     }
 }
 
@@ -189,7 +196,10 @@ fn abandon_in(place: &mut Option<WaitingCall>) -> EventReply
     ensures left { place.new ≡ None }
 {
     match place.take() {
-        Some(_) => EventReply::Dropped,
+        Some(call) => {
+            drop(call);
+            EventReply::Dropped
+        }
         None => EventReply::NoCall,
     }
 }
@@ -203,7 +213,7 @@ fn keep(place: &mut Option<WaitingCall>, progress: CallProgress) -> EventReply
     match progress {
         CallProgress::Waiting(call) => {
             let question = call.question().clone();
-            *place = Some(call);
+            drop(mem::replace(place, Some(call)));
             EventReply::Waits(question)
         }
         CallProgress::Done(result) => EventReply::Done(result),

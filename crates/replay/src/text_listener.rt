@@ -25,7 +25,9 @@ impl Listener for TextListener {
         (string_bytes after.text) };
 
     fn hear(&mut self, request: &Request, sent: &[Exchange], step: Step) -> Result<(), AllocError> {
-        push_told(&mut self.text, request, sent, &step)
+        let told = push_told(&mut self.text, request, sent, &step);
+        drop(step);
+        told
     }
 }
 

@@ -129,6 +129,7 @@ impl TraceReader {
         ensures lines { self.new.lines ≡ self.old.lines }
     {
         let Some(placed) = self.open_event.take() else {
+            drop(found);
             return Err(LineFault::wrong_line(ScriptFault::NoReply));
         };
         let Placed { line, event } = placed;
@@ -145,7 +146,10 @@ fn with_put<'a>(said: Said, section: Section, found: Record) -> Result<Said, Lin
     ensures { (result ≡ put_to section found said) ⊎ (result ≡ Err out_of_memory) }
 {
     match said {
-        Said::Asked(_) => Err(LineFault::wrong_line(ScriptFault::NoReply)),
+        Said::Asked(_) => {
+            drop(found);
+            Err(LineFault::wrong_line(ScriptFault::NoReply))
+        }
         Said::Received(reply) => Ok(Said::Received(with_record(reply, section, found)?)),
         Said::Told(reply) => Ok(Said::Told(with_record(reply, section, found)?)),
     }

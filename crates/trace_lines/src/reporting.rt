@@ -37,8 +37,17 @@ pub fn report<R: BufRead, W: Write>(
         ..
     } = settings;
     let mut session = Session::new(alloc, options, strictness);
-    hear_lines(alloc, &mut session, reader, writer)?;
-    session.finish(writer)
+    match hear_lines(alloc, &mut session, reader, writer) {
+        Ok(()) => {
+            let found = session.finish(writer);
+            drop(session);
+            found
+        }
+        Err(error) => {
+            drop(session);
+            Err(error)
+        }
+    }
 }
 
 // Judges all lines, of which none was heard before.

@@ -94,7 +94,10 @@ impl DrivenForwarder {
                 texts,
                 hasher,
             }),
-            Err(AllocError) => Err(ForwarderOpenError::OutOfMemory),
+            Err(AllocError) => {
+                drop(forwarder);
+                Err(ForwarderOpenError::OutOfMemory)
+            }
         }
     }
 

@@ -98,6 +98,9 @@ fn forwarder_or(
 {
     match ended {
         Ok(()) => Ok(forwarder),
-        Err(error) => Err(error),
+        Err(error) => {
+            drop(forwarder);
+            Err(error)
+        }
     }
 }

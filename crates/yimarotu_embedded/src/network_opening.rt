@@ -127,11 +127,16 @@ fn resolver_of(
     let builder = Resolver::builder_with_config(config, handle)
         .with_options(options)
         .with_hasher(seeds.cache, seeds.hosts);
-    let Ok(mut resolver) = builder.build() else {
-        return Err(AllocError);
-    };
-    resolver.set_hosts(hosts);
-    Ok(resolver)
+    match builder.build() {
+        Ok(mut resolver) => {
+            resolver.set_hosts(hosts);
+            Ok(resolver)
+        }
+        Err(_) => {
+            drop(hosts);
+            Err(AllocError)
+        }
+    }
 }
 
 // A session over this resolver, with these servers.
@@ -180,6 +185,9 @@ fn session_or(
 {
     match ended {
         Ok(()) => Ok(session),
-        Err(error) => Err(error),
+        Err(error) => {
+            drop(session);
+            Err(error)
+        }
     }
 }

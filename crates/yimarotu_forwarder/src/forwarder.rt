@@ -103,26 +103,33 @@ impl Forwarder {
         ensures { IfOk result (λ made. made ≡ new_forwarder options
             (record { hosts = local.hosts; rules = local.rules }) cache failures pool) }
     {
-        Ok(Forwarder {
-            alloc,
-            options,
-            local,
-            pool,
-            cache: SecondChanceCache::with_hasher(alloc, cache, hasher),
-            failures: FailureCache::with_hasher(alloc, failures, hasher),
-            counts: ClientCounts::new(alloc),
-            counted: ForwarderCounts::new(),
-            fetches: Fetches::new(alloc, hasher),
-            telling: None,
-            replying: None,
-            chain_end: None,
-            prefetch: None,
-            late: VecDeque::new(alloc),
-            generation: 0,
-            stalled: None,
-            clock: 0,
-            reply: ReplyRoom::new(alloc)?,
-        })
+        match ReplyRoom::new(alloc) {
+            Ok(reply) => Ok(Forwarder {
+                alloc,
+                options,
+                local,
+                pool,
+                cache: SecondChanceCache::with_hasher(alloc, cache, hasher),
+                failures: FailureCache::with_hasher(alloc, failures, hasher),
+                counts: ClientCounts::new(alloc),
+                counted: ForwarderCounts::new(),
+                fetches: Fetches::new(alloc, hasher),
+                telling: None,
+                replying: None,
+                chain_end: None,
+                prefetch: None,
+                late: VecDeque::new(alloc),
+                generation: 0,
+                stalled: None,
+                clock: 0,
+                reply,
+            }),
+            Err(error) => {
+                drop(local);
+                drop(pool);
+                Err(error)
+            }
+        }
     }
 
     /// Other local data from now on. What was kept is let go, and so is what comes of look-ups that began before, once

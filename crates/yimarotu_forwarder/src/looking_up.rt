@@ -158,6 +158,9 @@ impl Forwarder {
         ensures err { OnErr result (self.new ≡ self.old) }
     {
         let dnssec = self.dnssec_of(asks_dnssec(request.query()), is_unchecked(request.query()));
+        let is_noted = self.is_noted_late(&key);
+        self.fetches.reserve()?;
+        reserve_late(&mut self.late)?;
         let copy = copy_of(&query)?;
         let fetch = new_fetch(
             self.alloc,
@@ -167,9 +170,6 @@ impl Forwarder {
             self.generation,
             self.clock,
         )?;
-        let is_noted = self.is_noted_late(&key);
-        self.fetches.reserve()?;
-        reserve_late(&mut self.late)?;
         let asked = ask_counted(
             &mut self.counts,
             &mut self.pool,
@@ -185,8 +185,14 @@ impl Forwarder {
                 self.fetches.begin(key, fetch, asker.number);
                 Ok(Outcome::Waits)
             }
-            Asked::Overloaded => Ok(self.turn_away(request)),
-            Asked::NoServers => Ok(self.fail(request, FailureReason::NoReachableAuthority)),
+            Asked::Overloaded => {
+                drop(fetch);
+                Ok(self.turn_away(request))
+            }
+            Asked::NoServers => {
+                drop(fetch);
+                Ok(self.fail(request, FailureReason::NoReachableAuthority))
+            }
         }
     }
 

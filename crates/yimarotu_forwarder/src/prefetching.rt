@@ -97,9 +97,9 @@ impl Forwarder {
     {
         let (dnssec_ok, unchecked) = (is_dnssec(&key), is_unchecked(&key));
         let dnssec = self.dnssec_of(dnssec_ok, unchecked);
+        self.fetches.reserve()?;
         let copy = copy_of(&query)?;
         let fetch = lone_fetch(self.alloc, copy, &key, self.generation, self.clock)?;
-        self.fetches.reserve()?;
         let asked = ask(&mut self.pool, group, query, dnssec, self.clock)?;
         match asked {
             Asked::Asker(asker) => {
@@ -107,8 +107,10 @@ impl Forwarder {
                 self.counted.prefetched = one_more(self.counted.prefetched);
                 Ok(())
             }
-            Asked::Overloaded => Ok(()),
-            Asked::NoServers => Ok(()),
+            Asked::Overloaded | Asked::NoServers => {
+                drop(fetch);
+                Ok(())
+            }
         }
     }
 }

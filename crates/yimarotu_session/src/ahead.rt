@@ -126,7 +126,11 @@ pub(crate) fn asks_alone(
     ensures same { resolver.new ≡ resolver.old }
 {
     match start_alone(resolver, second) {
-        Ok(progress) => Ok(waits_for_it(&second.query, &progress)),
+        Ok(progress) => {
+            let asks = waits_for_it(&second.query, &progress);
+            drop(progress);
+            Ok(asks)
+        }
         Err(AllocError) => Err(AllocError),
     }
 }
@@ -157,12 +161,28 @@ fn hear(
     ensures err { OnErr result (resolver.new ≡ resolver.old) }
 {
     match clone_outcome(outcome) {
-        Ok(copy) => {
-            let progress = start_alone(resolver, second)?;
-            resume_for(resolver, &second.query, progress, copy);
+        Ok(copy) => hear_copy(resolver, second, copy),
+        Err(_) => Err(AllocError),
+    }
+}
+
+fn hear_copy(
+    resolver: &mut NetworkResolver,
+    second: &SecondQuestion,
+    outcome: Outcome,
+) -> Result<(), AllocError>
+    ensures ok { OnOk result (Hears second.now outcome resolver.old resolver.new) }
+    ensures err { OnErr result (resolver.new ≡ resolver.old) }
+{
+    match start_alone(resolver, second) {
+        Ok(progress) => {
+            resume_for(resolver, &second.query, progress, outcome);
             Ok(())
         }
-        Err(_) => Err(AllocError),
+        Err(AllocError) => {
+            drop(outcome);
+            Err(AllocError)
+        }
     }
 }
 
@@ -176,7 +196,10 @@ fn resume_for(
 {
     match progress {
         CallProgress::Waiting(call) => resume_waited_for(resolver, query, call, outcome),
-        CallProgress::Done(_) => {}
+        CallProgress::Done(found) => {
+            drop(found);
+            drop(outcome);
+        }
     }
 }
 
@@ -190,6 +213,9 @@ fn resume_waited_for(
 {
     if is_waited_for(query, &call) {
         drop(resolver.resume(call, outcome));
+    } else {
+        drop(call);
+        drop(outcome);
     }
 }
 
@@ -258,9 +284,15 @@ fn told(ahead: Ahead, outcome: Outcome) -> Ahead
     ensures { result ≡ told_ahead outcome ahead }
 {
     match ahead {
-        Ahead::Nothing => Ahead::Nothing,
+        Ahead::Nothing => {
+            drop(outcome);
+            Ahead::Nothing
+        }
         Ahead::Waits(question, _) => Ahead::Told(question.query, outcome),
-        Ahead::Told(question, first) => Ahead::Told(question, first),
+        Ahead::Told(question, first) => {
+            drop(outcome);
+            Ahead::Told(question, first)
+        }
     }
 }
 

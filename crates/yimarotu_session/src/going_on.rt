@@ -41,6 +41,9 @@ fn resumed(
 {
     match progress {
         CallProgress::Waiting(waiting) => resolver.resume(waiting, outcome),
-        CallProgress::Done(found) => CallProgress::Done(found),
+        CallProgress::Done(found) => {
+            drop(outcome);
+            CallProgress::Done(found)
+        }
     }
 }

@@ -131,6 +131,8 @@ impl LookupTable {
         if let Some(lookup) = self.lookups.get_mut(&number) {
             go_on(resolver, lookup, outcome);
             push(&mut self.to_ask, &mut self.to_announce, number, lookup);
+        } else {
+            drop(outcome);
         }
     }
 
@@ -260,6 +262,8 @@ impl LookupTable {
         self.askers.swap_remove(&told);
         if let Some(ahead) = self.ahead.get_mut(&number) {
             tell(ahead, outcome);
+        } else {
+            drop(outcome);
         }
     }
 

@@ -75,7 +75,10 @@ fn gone_on(resolver: &mut NetworkResolver, lookup: NetworkLookup, outcome: Outco
     match lookup {
         NetworkLookup::Asks(call) => lookup_of(resolver.resume(call, outcome)),
         NetworkLookup::Asked(call, _) => lookup_of(resolver.resume(call, outcome)),
-        NetworkLookup::Done { found, announced } => NetworkLookup::Done { found, announced },
+        NetworkLookup::Done { found, announced } => {
+            drop(outcome);
+            NetworkLookup::Done { found, announced }
+        }
     }
 }
 

@@ -86,14 +86,18 @@ impl NetworkSession {
     ) -> Result<NetworkSession, AllocError>
         ensures { IfOk result (λ session. session ≡ new_session resolver limits seed) }
     {
-        let options = Clone::clone(resolver.options())?;
-        let pool = NameServerPool::new(alloc, options, limits, seed, hasher);
-        Ok(NetworkSession {
-            resolver,
-            pool,
-            table: LookupTable::new(alloc),
-            telling: None,
-        })
+        match Clone::clone(resolver.options()) {
+            Ok(options) => Ok(NetworkSession {
+                resolver,
+                pool: NameServerPool::new(alloc, options, limits, seed, hasher),
+                table: LookupTable::new(alloc),
+                telling: None,
+            }),
+            Err(error) => {
+                drop(resolver);
+                Err(error)
+            }
+        }
     }
 
     // ---- events

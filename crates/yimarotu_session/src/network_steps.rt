@@ -288,9 +288,16 @@ fn tell_ahead(
     ensures table { OnErr result (table_of table.new ≡ table_of table.old) }
 {
     let outcome = telling.outcome()?;
-    hear_ahead(resolver, table.ahead.get(&number), &outcome)?;
-    table.tell_ahead(asker.number, number, outcome);
-    Ok(())
+    match hear_ahead(resolver, table.ahead.get(&number), &outcome) {
+        Ok(()) => {
+            table.tell_ahead(asker.number, number, outcome);
+            Ok(())
+        }
+        Err(error) => {
+            drop(outcome);
+            Err(error)
+        }
+    }
 }
 
 // The pool forgets who asks for a look-up, where somebody does.

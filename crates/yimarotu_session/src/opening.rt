@@ -132,14 +132,23 @@ fn resolver_of(
         options,
         domain,
         search,
+        outcomes,
+        requests,
         ..
     } = script;
+    drop(outcomes);
+    drop(requests);
     let config = ResolverConfig::from_parts(domain, search, Vec::new(alloc));
     let handle = ScriptHandle::new(Vec::new(alloc));
     let builder = Resolver::builder_with_config(config, handle).with_options(options);
-    let Ok(mut resolver) = builder.build() else {
-        return Err(OpenError::OutOfMemory);
-    };
-    resolver.set_hosts(hosts);
-    Ok(resolver)
+    match builder.build() {
+        Ok(mut resolver) => {
+            resolver.set_hosts(hosts);
+            Ok(resolver)
+        }
+        Err(_) => {
+            drop(hosts);
+            Err(OpenError::OutOfMemory)
+        }
+    }
 }

@@ -144,12 +144,20 @@ impl Session {
     pub fn feed(&mut self, number: u64, outcome: Outcome) -> Result<bool, SessionError>
         ensures { Feeds outcome number self.old result self.new }
     {
-        self.question(number)?;
-        let Some(held) = self.lookups.get_mut(&number) else {
-            return Err(SessionError::NoLookup);
-        };
-        go_on(&mut self.resolver, held, outcome);
-        Ok(waits(held))
+        if let Err(error) = self.question(number) {
+            drop(outcome);
+            return Err(error);
+        }
+        match self.lookups.get_mut(&number) {
+            Some(held) => {
+                go_on(&mut self.resolver, held, outcome);
+                Ok(waits(held))
+            }
+            None => {
+                drop(outcome);
+                Err(SessionError::NoLookup)
+            }
+        }
     }
 
     /// What the look-up of a number came to.

@@ -58,23 +58,34 @@ fn with_mut_cache(
     cache: &mut ResponseCache,
 ) -> Result<(), NetError> {
     let asked = query(alloc, "p")?;
+    let made = with_query(rt, alloc, case, cache, &asked);
+    drop(asked);
+    made
+}
+
+fn with_query(
+    rt: &impl Print,
+    alloc: Global,
+    case: &str,
+    cache: &mut ResponseCache,
+    asked: &Query,
+) -> Result<(), NetError> {
     match case {
-        "get" => show_got(rt, call!(rt, case, cache.get(&asked, 4))),
+        "get" => show_got(rt, call!(rt, case, cache.get(asked, 4))),
         "get of a negative answer" => {
-            let stored = stored(alloc, case, "p");
-            cache.insert(query(alloc, "p")?, stored, 0)?;
-            show_got(rt, call!(rt, case, cache.get(&asked, 4)));
+            cache.insert(query(alloc, "p")?, stored(alloc, case, "p"), 0)?;
+            show_got(rt, call!(rt, case, cache.get(asked, 4)));
         }
         "get_with_deadline" => {
-            show_got_until(rt, call!(rt, case, cache.get_with_deadline(&asked, 4)));
+            show_got_until(rt, call!(rt, case, cache.get_with_deadline(asked, 4)));
         }
         "no memory: get without an entry" => {
             let other = query(alloc, "q")?;
-            let has = call!(rt, case, (has(cache, &other, 0), has(cache, &asked, 11)));
+            let has = call!(rt, case, (has(cache, &other, 0), has(cache, asked, 11)));
             let _ = println!(rt; "{} {}", has.0, has.1);
         }
         "no memory: clear_query, clear and new" => {
-            let (before, after, fresh) = call!(rt, case, clear(alloc, cache, &asked));
+            let (before, after, fresh) = call!(rt, case, clear(alloc, cache, asked));
             let _ = println!(rt; "{before} {after} {fresh}");
         }
         "insert into a cache with room" => store(rt, alloc, case, cache, "q")?,
