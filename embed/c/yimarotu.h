@@ -201,8 +201,10 @@ typedef struct yimarotu_action {
  * resolv.conf has it.
  *
  * A datagram channel is a socket of its own, at a port that nobody can guess, connected to its server, and is kept after
- * an ICMP error. One that cannot be opened has failed (YIMAROTU_CHANNEL_LOCAL). Octets for a stream that is not connected
- * yet, or is full, wait with the program. Each channel that was opened is closed once, also one that failed. */
+ * an ICMP error. One that cannot be opened has failed (YIMAROTU_CHANNEL_LOCAL, where something is wanting here). Where
+ * connect(2) fails the socket is closed at once: it has a port by then, and would hear anybody. What is still said of
+ * its channel is passed over. Octets for a stream that is not connected yet, or is full, wait with the program. Each
+ * channel that was opened is closed once, also one that failed. */
 yimarotu_action yimarotu_next(yimarotu_session *session, uint8_t *room, size_t room_length);
 
 /* Octets came on a channel: a datagram, or a piece of a stream, cut anywhere. On a channel that is not open they change

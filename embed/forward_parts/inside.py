@@ -18,7 +18,7 @@ import dns.message
 sys.dont_write_bytecode = True
 EMBED = Path(__file__).resolve().parent.parent
 sys.path[:0] = [str(EMBED), str(EMBED.parent / "tests")]
-from forward_parts import asking, daemon, hostile
+from forward_parts import asking, bounds, daemon, hostile
 from live_parts import stub
 from live_parts.cases import Cases
 
@@ -90,6 +90,41 @@ def scoped(cases, run_daemon):
         with run_daemon.running(f"resolv_conf {file}", port=53) as running:
             found = asking.addresses(asking.by_udp(53, "five.example.test"))
             cases.equal("a server with a link-local address", found, ["192.0.2.5"])
+
+
+def open_to_anybody(pid, own=53):
+    """The ports, but for that of its clients, of a program's sockets for datagrams that are connected to nobody."""
+    found, inodes = [], set()
+    for file in Path(f"/proc/{pid}/fd").iterdir():
+        with contextlib.suppress(FileNotFoundError):
+            inodes.add(os.readlink(file))
+    for table in ("udp", "udp6"):
+        for line in Path(f"/proc/{pid}/net/{table}").read_text().splitlines()[1:]:
+            here, there, inode = (line.split()[at] for at in (1, 2, 9))
+            if f"socket:[{inode}]" in inodes and not there.strip("0:"):
+                found.append(int(here.split(":")[1], 16))
+    return [port for port in found if port != own]
+
+
+def no_way(cases, run_daemon):
+    """Of a server to which no way leads no socket stays that is connected to nobody, while the next one is asked."""
+    with bounds.datagrams() as sock:
+        sock.bind(("127.0.0.1", 0))
+        silent = bounds.Upstream(sock)
+        lines = ["server 2001:db8::1 53 udp", f"server {silent.text} udp", f"option timeout {daemon.SECONDS}"]
+        with run_daemon.running(*lines, port=53) as running, asking.datagrams(53) as client:
+            client.send(asking.query("four.example.test").to_wire())
+            cases.tell("no way leads to the first server: the next one is asked", silent.hear(), "nothing came")
+            cases.equal("ports that hear anybody", open_to_anybody(running.pid), [])
+        words = [run_daemon.program.parent / "lookup", "third.example.test", "\n".join(lines)]
+        process = subprocess.Popen(words, stdin=subprocess.DEVNULL, stderr=subprocess.DEVNULL)
+        try:
+            asked = silent.hear_of("third.example.test.", daemon.SECONDS)
+            cases.tell("lookup, no way leads to the first server: the next one is asked", asked, "nothing came")
+            cases.equal("lookup, ports that hear anybody", open_to_anybody(process.pid), [])
+        finally:
+            process.kill()
+            process.wait()
 
 
 @contextlib.contextmanager
@@ -262,6 +297,8 @@ def main(out, folder, name):
                 programs(cases, folder)
         with cases.guard("a server with a link-local address"):
             scoped(cases, run_daemon)
+        with cases.guard("a server to which no way leads"):
+            no_way(cases, run_daemon)
         with cases.guard("hosts of one network"):
             one_of_a_network(cases, run_daemon)
         with cases.guard("control sockets of others"):

@@ -51,8 +51,9 @@ static void fail_to_open(uint64_t channel, int error) {
     else fail(channel, error);
 }
 
-/* Opens a channel: a socket of its own, connected to the server whose address, and scope behind it, are in the room. One
- * that failed stays until the library says that it is to be closed. */
+/* Opens a channel: a socket of its own, connected to the server whose address, and scope behind it, are in the room. A
+ * socket that was not connected is closed at once: it has a port by then, and would hear anybody. One that fails later
+ * stays until the library says that it is to be closed. */
 static void open_channel(const yimarotu_action *open) {
     bool is_v4 = open->family == 4, is_stream = open->protocol == YIMAROTU_STREAM;
     struct sockaddr_in v4 = {.sin_family = AF_INET, .sin_port = htons(open->port)};
@@ -66,10 +67,14 @@ static void open_channel(const yimarotu_action *open) {
     if (count == CHANNELS) return fail_to_open(open->channel, EMFILE);
     int fd = socket(is_v4 ? AF_INET : AF_INET6, (is_stream ? SOCK_STREAM : SOCK_DGRAM) | SOCK_CLOEXEC | SOCK_NONBLOCK, 0);
     if (fd < 0) return fail_to_open(open->channel, errno);
+    int ended = is_v4 ? connect(fd, (struct sockaddr *)&v4, sizeof v4) : connect(fd, (struct sockaddr *)&v6, sizeof v6);
+    if (ended != 0 && errno != EINPROGRESS) {
+        fail_to_open(open->channel, errno);
+        close(fd);
+        return;
+    }
     channels[count] = (struct channel){.number = open->channel, .is_stream = is_stream};
     polled[count++] = (struct pollfd){.fd = fd, .events = POLLIN};
-    int ended = is_v4 ? connect(fd, (struct sockaddr *)&v4, sizeof v4) : connect(fd, (struct sockaddr *)&v6, sizeof v6);
-    if (ended != 0 && errno != EINPROGRESS) fail_to_open(open->channel, errno);
 }
 
 /* Sends what waits on a channel, and so many octets of the room behind it, as far as it goes. */

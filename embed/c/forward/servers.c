@@ -109,20 +109,22 @@ static int socket_for(const union address *server, bool is_stream) {
     return fd;
 }
 
+/* A socket that was not connected is closed at once: it has a port by then, and would hear anybody. What the library
+ * still says of its channel finds none. */
 void open_channel(const yimarotu_action *open) {
     union address server;
     socklen_t length = read_server(open, &server);
     bool is_stream = open->protocol == YIMAROTU_STREAM;
     struct channel *channel = malloc(sizeof *channel), **link = link_of(open->channel);
     int fd = channel != NULL ? socket_for(&server, is_stream) : -1;
-    if (fd < 0 || !watch(EPOLL_CTL_ADD, fd, EPOLLIN, what(open->channel))) {
+    bool is_watched = fd >= 0 && watch(EPOLL_CTL_ADD, fd, EPOLLIN, what(open->channel));
+    if (!is_watched || (connect(fd, &server.any, length) != 0 && errno != EINPROGRESS)) {
         tell_failure(open->channel, why_not_opened(errno));
         if (fd >= 0) close(fd);
         return free(channel);
     }
     *channel = (struct channel){.number = open->channel, .fd = fd, .is_stream = is_stream, .next = *link};
     *link = channel;
-    if (connect(fd, &server.any, length) != 0 && errno != EINPROGRESS) fail(channel, why_not_opened(errno));
 }
 
 /* Sends what waits on a stream as far as it goes; before it is connected nothing does. That it was closed is told when
