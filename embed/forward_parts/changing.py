@@ -129,7 +129,7 @@ class Machine:
 
     def __init__(self, folder, library):
         self._file = folder / f"slept{time.monotonic_ns()}"
-        self._slept = self._late = 0
+        self._slept = self._late = self._sleeps = 0
         self._tell()
         self.environment = {**os.environ, "LD_PRELOAD": str(library), "SLEPT": str(self._file)}
 
@@ -142,10 +142,15 @@ class Machine:
         self._late = milliseconds
         self._tell()
 
+    def sleep_at_each_connection(self, milliseconds):
+        """From now on it sleeps for so long when it gave one."""
+        self._sleeps = milliseconds
+        self._tell()
+
     def _tell(self):
         self._file.touch()
         with self._file.open("r+b", buffering=0) as file:
-            file.write(struct.pack("@QQ", self._slept, self._late))
+            file.write(struct.pack("@QQQ", self._slept, self._late, self._sleeps))
 
 
 def slept(cases, daemon):
@@ -239,12 +244,9 @@ def stale(cases, daemon):
             cases.equal(f"{line}: what ran out, of a server that is silent", found, wanted)
 
 
-def left_in_socket(cases, daemon):
-    """A reply that came while the machine slept is not used, though it was still waited for: its TTL would count from when
-    it woke."""
-    if daemon.name.endswith(".sanitized"):
-        return
-    machine = Machine(daemon.folder, daemon.program.parent / "sleeping.so")
+@contextlib.contextmanager
+def asked_for_late(daemon, machine):
+    """Gives the program, a client whose query waits, and its server with the question that it was asked."""
     with contextlib.ExitStack() as stack:
         sock = stack.enter_context(bounds.datagrams())
         sock.bind(("127.0.0.1", 0))
@@ -253,7 +255,16 @@ def left_in_socket(cases, daemon):
         running = stack.enter_context(daemon.running(*lines, env=machine.environment))
         client = stack.enter_context(asking.datagrams(running.port))
         client.send(asking.query("late.example.test", id=7).to_wire())
-        asked = upstream.hear()
+        yield running, client, upstream, upstream.hear()
+
+
+def left_in_socket(cases, daemon):
+    """A reply that came while the machine slept is not used, though it was still waited for: its TTL would count from when
+    it woke."""
+    if daemon.name.endswith(".sanitized"):
+        return
+    machine = Machine(daemon.folder, daemon.program.parent / "sleeping.so")
+    with asked_for_late(daemon, machine) as (running, client, upstream, asked):
         with running.stopped():
             upstream.answer(asked, (LIFE, "IN", "A", "192.0.2.1"))
             machine.sleep(NAP)
@@ -274,4 +285,43 @@ def left_in_socket(cases, daemon):
             cases.equal("what is told when it woke", (reply.id, asking.addresses(reply)), (8, ["192.0.2.2"]))
 
 
-ALL = (under_load, killed, slept, stalled, stale, left_in_socket)
+def left_between_events(cases, daemon):
+    """The same where the machine slept between two events of which the program heard at once."""
+    if daemon.name.endswith(".sanitized"):
+        return
+    machine = Machine(daemon.folder, daemon.program.parent / "sleeping.so")
+    with asked_for_late(daemon, machine) as (running, client, upstream, asked):
+        machine.sleep_at_each_connection(NAP)
+        with running.stopped(), asking.stream(running.port):
+            upstream.answer(asked, (LIFE, "IN", "A", "192.0.2.1"))
+        # (it goes on, and then time ends what waits)
+        asking.by_udp(running.port, "localhost")
+        machine.sleep(NAP)
+        asking.by_udp(running.port, "localhost")
+        reply = dns.message.from_wire(client.recv(512))
+        found = reply.id, asking.addresses(reply)
+        cases.equal("what is told of a reply that came before it slept between two events", found, (7, "SERVFAIL"))
+
+
+def stream_at_waking(cases, daemon):
+    """A stream that is opened at waking, since time ended what was asked before, is not closed as one of before."""
+    if daemon.name.endswith(".sanitized"):
+        return
+    machine = Machine(daemon.folder, daemon.program.parent / "sleeping.so")
+    with contextlib.ExitStack() as stack:
+        sock = stack.enter_context(bounds.datagrams())
+        sock.bind(("127.0.0.1", 0))
+        silent, server = bounds.Upstream(sock), stack.enter_context(stub.running())
+        lines = [f"server {silent.text} udp", f"server 127.0.0.1 {server.port} tcp", "option timeout 30"]
+        running = stack.enter_context(daemon.running(*lines, env=machine.environment))
+        client = stack.enter_context(asking.datagrams(running.port))
+        client.send(asking.query("four.example.test").to_wire())
+        silent.hear()
+        machine.sleep(2 * NAP)
+        asking.by_udp(running.port, "localhost")
+        found = asking.addresses(dns.message.from_wire(client.recv(512)))
+        cases.equal("what is told by a stream that is opened at waking", found, ["192.0.2.4"])
+        cases.equal("how often it is asked there", len(server.questions_for("four.example.test.")), 1)
+
+
+ALL = (under_load, killed, slept, stalled, stale, left_in_socket, left_between_events, stream_at_waking)

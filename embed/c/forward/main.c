@@ -136,12 +136,20 @@ static bool stood_still(uint64_t due) {
     return asleep >= before + SECOND || moment >= due + STILL;
 }
 
-/* The TTLs of replies that came meanwhile would count from now: those that are still waited for are let go, too. */
+/* The TTLs of replies that came meanwhile would count from now: those that are still waited for are let go, too. What
+ * time has to be done is done behind that: a stream that is opened for it stays. */
 static void wake(void) {
     yimarotu_forwarder_tick(&forwarder, moment);
-    act();
     let_go_of_what_came();
     act();
+}
+
+/* Looks at the clock again, which was to be done within so many milliseconds. It is done before each event: the machine
+ * may sleep between two that were told at once. */
+static void look_at_clock(int within) {
+    uint64_t due = moment + (uint64_t)within;
+    moment = now();
+    if (stood_still(due)) wake();
 }
 
 static void serve(void) {
@@ -149,11 +157,9 @@ static void serve(void) {
     uint64_t looked_at = 0;
     while (!is_ended) {
         int wait = wait_time();
-        uint64_t due = now() + (uint64_t)wait;
         int count = epoll_wait(epoll, events, BATCH, wait);
-        moment = now();
-        if (stood_still(due)) wake();
-        for (int at = 0; at < count; at++) moment = now(), on_event(&events[at]), act();
+        look_at_clock(wait);
+        for (int at = 0; at < count; at++) look_at_clock(0), on_event(&events[at]), act();
         if (count == BATCH) hear_datagrams();
         tell_failures_again();
         yimarotu_forwarder_tick(&forwarder, moment);

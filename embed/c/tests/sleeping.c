@@ -1,6 +1,6 @@
 /* A machine that slept, or is slow. Loaded into a program before the C library (LD_PRELOAD) it puts its CLOCK_BOOTTIME
- * forward, while other clocks stay, and has accept4(2) give each connection late. By how many milliseconds stands in the
- * file that the variable SLEPT names, in eight octets each. */
+ * forward, while other clocks stay, has accept4(2) give each connection late, and sleeps when it gave one. For how many
+ * milliseconds stands in the file that the variable SLEPT names, in eight octets each. */
 #define _GNU_SOURCE
 #include <fcntl.h>
 #include <stdint.h>
@@ -12,10 +12,11 @@
 #include <unistd.h>
 
 struct told {
-    uint64_t slept, late;
+    uint64_t slept, late, sleeps;
 };
 
 static const volatile struct told *told;
+static uint64_t slept_here; /* when it gave connections */
 
 __attribute__((constructor)) static void begin(void) {
     const char *path = getenv("SLEPT");
@@ -29,7 +30,7 @@ __attribute__((constructor)) static void begin(void) {
 int clock_gettime(clockid_t clock, struct timespec *time) {
     int ended = (int)syscall(SYS_clock_gettime, clock, time);
     if (ended != 0 || clock != CLOCK_BOOTTIME || told == NULL) return ended;
-    uint64_t milliseconds = told->slept;
+    uint64_t milliseconds = told->slept + slept_here;
     time->tv_sec += (time_t)(milliseconds / 1000), time->tv_nsec += (long)(milliseconds % 1000) * 1000000;
     if (time->tv_nsec >= 1000000000) time->tv_sec++, time->tv_nsec -= 1000000000;
     return 0;
@@ -46,5 +47,6 @@ int accept4(int fd, struct sockaddr *at, socklen_t *length, int flags) {
     int got = (int)syscall(SYS_accept4, fd, at, length, flags);
     uint64_t until = milliseconds_now() + told->late;
     while (got >= 0 && milliseconds_now() < until);
+    if (got >= 0) slept_here += told->sleeps;
     return got;
 }
