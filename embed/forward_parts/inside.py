@@ -3,14 +3,18 @@
 `N passed, M failed`."""
 import contextlib
 import email.utils
+import fcntl
 import hashlib
 import http.server
 import os
+import select
 import socket
+import struct
 import subprocess
 import sys
 import tempfile
 import threading
+import time
 from pathlib import Path
 
 import dns.message
@@ -30,7 +34,7 @@ RECORDS = [
     "alias.example.test. 60 IN CNAME web.example.test.", "four.example.test. 60 IN A 192.0.2.4",
     "mirror.example.test. 60 IN CNAME web.example.test.",
 ]
-PAGES, SHELLS = 8080, 2222
+PAGES, SHELLS, CLIENT = 8080, 2222, 40000
 # How many connections a network of IPv6 has, and how many of them one address.
 OF_NETWORK, OF_ADDRESS = 256, 64
 # The one package of a small repository, for every machine.
@@ -80,6 +84,50 @@ def sources(cases, running):
         sock.send(asking.query("four.example.test").to_wire())
         found = asking.addresses(dns.message.from_wire(sock.recv(512)))
         cases.equal("by UDP from a link-local address, to a global one", found, ["192.0.2.4"])
+
+
+@contextlib.contextmanager
+def link(name, address):
+    """An interface at whose other end is this program; gives the file by which it hears and sends packets."""
+    TUNSETIFF, IFF_TUN, IFF_NO_PI = 0x400454CA, 1, 0x1000
+    with open("/dev/net/tun", "r+b", buffering=0) as file:
+        fcntl.ioctl(file, TUNSETIFF, struct.pack("16sH22x", name.encode(), IFF_TUN | IFF_NO_PI))
+        for words in (["link", "set", name, "up"], ["address", "add", f"{address}/16", "dev", name]):
+            subprocess.run(["ip", *words], check=True)
+        yield file
+
+
+def packet(source, target, port, octets):
+    """A datagram of UDP over IPv4 (RFC 791, section 3.1), without a checksum of its own (RFC 768)."""
+    head = struct.pack(">BxH4xBBxx", 0x45, 28 + len(octets), 64, socket.IPPROTO_UDP)
+    head += socket.inet_aton(source) + socket.inet_aton(target)
+    total = sum(struct.unpack(">10H", head))
+    head = head[:10] + struct.pack(">H", ~(total + (total >> 16)) & 0xFFFF) + head[12:]
+    return head + struct.pack(">4H", port, 53, 8 + len(octets), 0) + octets
+
+
+def heard_at(files, port):
+    """By which of these interfaces a datagram to this port goes out, or None."""
+    until = time.monotonic() + daemon.SECONDS
+    while (left := until - time.monotonic()) > 0:
+        for file in select.select(files.values(), [], [], left)[0]:
+            octets = file.read(65535)
+            if octets[0] >> 4 == 4 and octets[9] == socket.IPPROTO_UDP and octets[22:24] == struct.pack(">H", port):
+                return next(name for name in files if files[name] is file)
+    return None
+
+
+def of_two_links(cases):
+    """A client with a link-local address is replied to by the link on which it is, and not by the first one that has such
+    addresses."""
+    if not os.path.exists("/dev/net/tun"):
+        return print("/dev/net/tun is not there: link-local addresses of IPv4 are not looked at")
+    with link("first", "169.254.1.1") as first, link("second", "169.254.1.2") as second:
+        for name in ("all", "second"):
+            Path(f"/proc/sys/net/ipv4/conf/{name}/rp_filter").write_text("0")
+        second.write(packet("169.254.9.9", "169.254.1.2", CLIENT, asking.query("localhost").to_wire()))
+        found = heard_at({"first": first, "second": second}, CLIENT)
+        cases.equal("by which link a client with a link-local address is replied to", found, "second")
 
 
 def scoped(cases, run_daemon):
@@ -294,6 +342,8 @@ def main(out, folder, name):
             os.chmod(folder, 0o755)
             with run_daemon.running(*lines, port=53, listens=("0.0.0.0", "::")) as running:
                 sources(cases, running)
+                with cases.guard("two links"):
+                    of_two_links(cases)
                 programs(cases, folder)
         with cases.guard("a server with a link-local address"):
             scoped(cases, run_daemon)

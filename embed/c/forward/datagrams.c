@@ -153,20 +153,29 @@ static void take_query(const struct way *way, const uint8_t *query, size_t lengt
     else if (client->waiting++ == 0) take_place(client, bucket);
 }
 
+/* Whether an address means something on one interface alone (RFC 3927, section 3; RFC 4291, section 2.5.6). */
+static bool is_of_link(const union address *address) {
+    const uint8_t *octets;
+    if (octets_of_address(address, &octets) == 4) return octets[0] == 169 && octets[1] == 254;
+    return IN6_IS_ADDR_LINKLOCAL(&address->v6.sin6_addr);
+}
+
 /* The way of a datagram. An interface counts only for addresses that mean something on that alone. */
 static struct way way_of(int fd, struct msghdr *header) {
     struct way way = {.fd = fd};
     memcpy(&way.client, header->msg_name, header->msg_namelen);
     for (struct cmsghdr *part = CMSG_FIRSTHDR(header); part != NULL; part = CMSG_NXTHDR(header, part)) {
+        union address asked = {.any.sa_family = way.client.any.sa_family};
         struct in_pktinfo v4;
         if (part->cmsg_level == IPPROTO_IP && part->cmsg_type == IP_PKTINFO) {
             memcpy(&v4, CMSG_DATA(part), sizeof v4);
-            way.asked.v4.ipi_spec_dst = v4.ipi_spec_dst;
+            way.asked.v4.ipi_spec_dst = asked.v4.sin_addr = v4.ipi_spec_dst;
+            if (is_of_link(&way.client) || is_of_link(&asked)) way.asked.v4.ipi_ifindex = v4.ipi_ifindex;
         }
         if (part->cmsg_level == IPPROTO_IPV6 && part->cmsg_type == IPV6_PKTINFO) {
             memcpy(&way.asked.v6, CMSG_DATA(part), sizeof way.asked.v6);
-            if (!IN6_IS_ADDR_LINKLOCAL(&way.client.v6.sin6_addr) && !IN6_IS_ADDR_LINKLOCAL(&way.asked.v6.ipi6_addr))
-                way.asked.v6.ipi6_ifindex = 0;
+            asked.v6.sin6_addr = way.asked.v6.ipi6_addr;
+            if (!is_of_link(&way.client) && !is_of_link(&asked)) way.asked.v6.ipi6_ifindex = 0;
         }
     }
     return way;
