@@ -264,7 +264,12 @@ def log_stays(cases, daemon):
 
 def long_log(cases, daemon):
     """Lines that a log does not take, since files may be no longer, are lost and counted, and clients are answered. Once
-    there is room again no line goes on in another one."""
+    there is room again no line goes on in another one, also where the same log was opened again meanwhile."""
+    for is_opened_again in (False, True):
+        filled_log(cases, daemon, is_opened_again)
+
+
+def filled_log(cases, daemon, is_opened_again):
     log = daemon.folder / f"log{time.monotonic_ns()}"
     limit = functools.partial(resource.setrlimit, resource.RLIMIT_FSIZE, (LONGEST_FILE, 2 * LONGEST_FILE))
     with stub.running() as server, daemon.over(server, f"log {log}", preexec_fn=limit) as running:
@@ -272,6 +277,8 @@ def long_log(cases, daemon):
             found = asking.addresses(asking.by_udp(running.port, "four.example.test"))
         cases.equal("a client, where the log is full", found, ["192.0.2.4"])
         wait_until(lambda: running.counts()["log_lines_lost"] > 0, "lines of the log are lost")
+        if is_opened_again:
+            cases.equal("the log is opened again", running.control("reload")[0], 0)
         resource.prlimit(running.pid, resource.RLIMIT_FSIZE, (2 * LONGEST_FILE, 2 * LONGEST_FILE))
         with cases.guard("a log that goes on"):
             asking.by_udp(running.port, "last.example.test")

@@ -19,13 +19,22 @@ static char lines[PIPE_BUF]; /* a pipe takes so many octets whole, or none of th
 static size_t length;
 static bool has_rest; /* in front stands what is left of a line that was taken in part, by a disk that is full */
 
-/* A pipe without a reader is opened for reading, too: else it could not be opened at all. */
+/* Whether this is the log that is open. */
+static bool is_open_log(int fd) {
+    struct stat found, own;
+    return file >= 0 && fstat(fd, &found) == 0 && fstat(file, &own) == 0
+        && found.st_ino == own.st_ino && found.st_dev == own.st_dev;
+}
+
+/* A pipe without a reader is opened for reading, too: else it could not be opened at all. Where it is the same log,
+ * what is left of a line that was cut stays: it is still to be ended there. */
 bool open_log(const char *path) {
     struct stat found;
     bool is_pipe = stat(path, &found) == 0 && S_ISFIFO(found.st_mode);
     int fd = open(path, (is_pipe ? O_RDWR : O_WRONLY) | O_APPEND | O_CREAT | O_NONBLOCK | O_CLOEXEC | O_NOCTTY, 0640);
     if (fd < 0) return false;
-    close_log();
+    if (is_open_log(fd)) close(file);
+    else close_log();
     file = fd;
     return true;
 }
