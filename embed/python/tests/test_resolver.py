@@ -10,6 +10,7 @@ import socket
 import tempfile
 import threading
 import time
+import tracemalloc
 import unittest
 
 import network
@@ -309,6 +310,23 @@ class Cache(WithServer):
         self.assertEqual((told.started, told.sent), (1000, 1000))
 
 
+    def test_rooms_for_addresses(self):
+        """One that was too small is let go."""
+        counts = range(100, 2100, 100)
+        hosts = "".join(f"10.0.{at // 250}.{at % 250} h{count}\n" for count in counts for at in range(count))
+        resolver = self.resolver(hosts=hosts, settings="option ip_strategy Ipv4Only")
+        tracemalloc.start()
+        try:
+            before = tracemalloc.get_traced_memory()[0]
+            found = [len(resolver.addresses(f"h{count}.")) for count in counts]
+            grown = tracemalloc.get_traced_memory()[0] - before
+        finally:
+            tracemalloc.stop()
+        self.assertEqual(found, list(counts))
+        # (17 octets for each address)
+        self.assertLess(grown, 17 * sum(counts) / 2)
+
+
 class Closing(WithServer):
     def test_nothing_is_left_open(self):
         before = network.descriptors()
@@ -495,6 +513,15 @@ class Sleeping(WithServer):
 
 
 class Fed(unittest.TestCase):
+    def test_dropped(self):
+        """It is closed when it is dropped."""
+        session = yimarotu.Session()
+        inside = session._session
+        self.assertTrue(inside.is_open)
+        del session
+        gc.collect()
+        self.assertFalse(inside.is_open)
+
     def test_session(self):
         """A session that is fed by hand, as it was before there was a resolver."""
         with yimarotu.Session("option ip_strategy Ipv4Only\n", moment=100) as session:

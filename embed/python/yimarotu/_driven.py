@@ -62,10 +62,9 @@ class DrivenSession:
     def __init__(self, opening: Opening) -> None:
         self._session = SessionStruct(False, None)
         self._at = ctypes.addressof(self._session)
-        self._rooms: List[Any] = []
-        self.room_at, self.room = self._new_room(ROOM)
+        self.room_at, self.room = _new_room(ROOM)
         self._room_length = ROOM
-        self._addresses_at, self._addresses = self._new_room(ADDRESSES)
+        self._addresses_at, self._addresses = _new_room(ADDRESSES)
         words = [word for part in (*opening, os.urandom(32)) for word in (part, len(part))]
         ended = library.yimarotu_open(self._at, *words, now())
         if ended.status == numbers.SCRIPT:
@@ -74,12 +73,6 @@ class DrivenSession:
         if ended.status == numbers.HOSTS:
             raise BadSettings("a line of the hosts is not UTF-8")
         _check(ended.status)
-
-    def _new_room(self, size: int) -> Tuple[int, memoryview]:
-        octets = bytearray(size)
-        room = (ctypes.c_char * size).from_buffer(octets)
-        self._rooms.append(room)
-        return ctypes.addressof(room), memoryview(octets)
 
     def close(self) -> None:
         if self._session.is_open:
@@ -101,7 +94,7 @@ class DrivenSession:
         if action.status:
             if action.status != numbers.ROOM:
                 _check(action.status)
-            self.room_at, self.room = self._new_room(action.length)
+            self.room_at, self.room = _new_room(action.length)
             self._room_length = action.length
             return self.next()
         return action
@@ -147,7 +140,7 @@ class DrivenSession:
         if found.status:
             if found.status != numbers.ROOM:
                 _check(found.status)
-            self._addresses_at, self._addresses = self._new_room(17 * found.count)
+            self._addresses_at, self._addresses = _new_room(17 * found.count)
             return self.addresses(number, host)
         if found.error:
             raise self._error(number, host)
@@ -185,6 +178,12 @@ class DrivenSession:
         told = library.yimarotu_statistics(self._at)
         _check(told.status)
         return Statistics(told.started, told.done_at_once, told.sent, told.timed_out, told.entries, told.octets)
+
+
+def _new_room(size: int) -> Tuple[int, memoryview]:
+    """The address of a room, and a view of it: as long as that is held the room is there, and stays where it is."""
+    octets = bytearray(size)
+    return ctypes.addressof((ctypes.c_char * size).from_buffer(octets)), memoryview(octets)
 
 
 def _address(octets: bytes, at: int) -> Address:

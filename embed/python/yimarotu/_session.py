@@ -81,7 +81,8 @@ def replay(script: bytes, hosts: bytes = b"", room: int = 1 << 16) -> bytes:
 class Session:
     """A resolver that is fed by hand: its hosts, its cache, and look-ups by number, each of which waits for an
     outcome or is done. The program asks the questions, and sees to it that a reply is the response: by its QR bit,
-    its id, its question and whom it comes from (docs/EMBED.md, "Sessions that are fed by hand").
+    its id, its question and whom it comes from (docs/EMBED.md, "Sessions that are fed by hand"). It is closed when it
+    is dropped.
 
     Settings are lines of a script, texts are str or bytes, messages are bytes (RFC 1035, section 4.1), and moments are
     seconds. A call that does not end well raises `Refused` with the number of its status; a number that does not fit
@@ -151,6 +152,12 @@ class Session:
     def close(self) -> None:
         """Closes it, with all its look-ups."""
         self._call("close")
+
+    def __del__(self) -> None:
+        # Where the interpreter ends, or the opening failed, parts of it may not be there.
+        session = getattr(self, "_session", None)
+        if session is not None and session.is_open and library is not None:
+            library.yimarotu_close(ctypes.addressof(session))
 
     def __enter__(self) -> Session:
         return self
