@@ -11,6 +11,7 @@ import time
 import unittest.mock
 from dataclasses import dataclass
 
+import yimarotu
 from yimarotu import _driven
 
 ADDRESS, OTHER_ADDRESS = "127.0.0.1", "127.0.0.2"
@@ -222,6 +223,23 @@ def sleeping_machine():
 
     with unittest.mock.patch.object(_driven, "_clock", told):
         yield sleep
+
+
+def runs_out_of_memory(session, call, times, behind=None):
+    """From now on a call of a session raises so often that no memory is left: behind an action of a kind, where one is
+    said, else at once."""
+    calls, behind_it = getattr(session, call), behind is None
+
+    def called():
+        nonlocal times, behind_it
+        if behind_it and times:
+            times -= 1
+            raise yimarotu.OutOfMemory("no memory was left")
+        told = calls()
+        behind_it = behind_it or told.kind == behind
+        return told
+
+    setattr(session, call, called)
 
 
 def wait_until_readable(sock):

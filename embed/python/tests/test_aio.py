@@ -8,7 +8,7 @@ import unittest
 
 import network
 import yimarotu
-from yimarotu import aio
+from yimarotu import _numbers, aio
 
 WWW = [ipaddress.ip_address("2001:db8::1"), ipaddress.ip_address("192.0.2.1")]
 
@@ -146,6 +146,32 @@ class Waiting(WithServer):
 
         self.assertEqual(str(self.run_with(work)[0].data), "192.0.2.12")
         self.assertEqual(self.server.count("held"), 2)
+
+    def failing(self, name, call, *words, **settings):
+        """What a look-up came to while a call of the session fails, and the errors that the loop was told of."""
+        async def work(resolver):
+            told = []
+            asyncio.get_running_loop().set_exception_handler(lambda _, of: told.append(type(of["exception"])))
+            task = asyncio.ensure_future(resolver.lookup(f"{name}.example.test", timeout=network.LONG))
+            await asyncio.sleep(0)
+            self.server.wait_for(name, 1)
+            network.runs_out_of_memory(resolver._driver.session, call, *words)
+            self.server.release()
+            return await error_of(task), told
+
+        return self.run_with(work, **settings)
+
+    def test_memory_runs_out_behind_a_look_up_that_is_done(self):
+        found, told = self.failing("held", "next", 1, _numbers.LOOKED_UP)
+        self.assertEqual(([str(it.data) for it in found], told), (["192.0.2.12"], [yimarotu.OutOfMemory]))
+
+    def test_memory_runs_out_when_time_ends_something(self):
+        """The timer is set anew."""
+        began = time.monotonic()
+        settings = ["option timeout 1", "option attempts 0"]
+        found, told = self.failing("silent", "tick", 2, settings=settings)
+        self.assertEqual((found, told), (yimarotu.Timeout, [yimarotu.OutOfMemory] * 2))
+        self.assertLess(time.monotonic() - began, network.LONG)
 
     def test_one_of_two_is_cancelled(self):
         """Who waits for the same question goes on."""

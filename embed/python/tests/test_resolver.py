@@ -15,6 +15,7 @@ import unittest
 
 import network
 import yimarotu
+from yimarotu import _numbers
 
 WWW = [ipaddress.ip_address("2001:db8::1"), ipaddress.ip_address("192.0.2.1")]
 
@@ -424,6 +425,81 @@ class Threads(WithServer):
         for thread in threads:
             thread.join(20)
         self.assertEqual((len(found), self.server.count("slow")), (10, 1))
+
+
+class Failing(WithServer):
+    """Something is raised in one of two threads, the one that waits for the sockets."""
+
+    def begin(self, timeout):
+        """Has one wait for a silent server, for so long, and then another for a reply."""
+        self.waiting, self.told = self.resolver(settings="option timeout 60"), {}
+        threads = []
+        for name, limit in (("silent", timeout), ("held", network.LONG)):
+            threads.append(threading.Thread(target=self.look_up, args=(name, limit)))
+            threads[-1].start()
+            self.server.wait_for(name, 1)
+        return threads
+
+    def look_up(self, name, timeout):
+        try:
+            self.told[name] = str(self.waiting.lookup(f"{name}.example.test", timeout=timeout)[0].data)
+        except yimarotu.Error as error:
+            self.told[name] = type(error)
+
+    def test_behind_a_look_up_that_is_done(self):
+        """Who waited for that is told of it."""
+        threads = self.begin(2 * network.LONG)
+        with self.waiting._driver.lock:
+            network.runs_out_of_memory(self.waiting._driver.session, "next", 1, behind=_numbers.LOOKED_UP)
+        self.server.release()
+        for thread in threads:
+            thread.join()
+        self.assertEqual(self.told, {"silent": yimarotu.OutOfMemory, "held": "192.0.2.12"})
+
+    def test_as_it_ends(self):
+        """The other one waits for the sockets from then on."""
+        threads = self.begin(1)
+        with self.waiting._driver.lock:
+            network.runs_out_of_memory(self.waiting._driver.session, "next", 2)
+        threads[0].join()
+        self.server.release()
+        threads[1].join()
+        self.assertEqual(self.told, {"silent": yimarotu.OutOfMemory, "held": "192.0.2.12"})
+
+    def test_as_it_takes_the_lock(self):
+        """What a signal has raised there is raised once it is taken, and others look up as before."""
+        resolver = self.resolver()
+        lock = resolver._driver.lock = Interrupted(resolver._driver.lock)
+        with self.assertRaises(KeyboardInterrupt):
+            resolver.lookup("slow.example.test", timeout=network.LONG)
+        self.assertFalse(lock._is_owned())
+        self.assertEqual(str(resolver.lookup("four.example.test", timeout=network.LONG)[0].data), "192.0.2.4")
+
+    def test_within_a_look_up(self):
+        """One that a handler of a signal makes there is refused, and does not wait for the lock of its own thread."""
+        resolver = self.resolver()
+        with resolver._driver.lock, self.assertRaises(RuntimeError):
+            resolver.lookup("four.example.test", timeout=1)
+
+
+class Interrupted:
+    """A lock that is not taken when it is waited for the first time: a signal comes."""
+
+    def __init__(self, lock):
+        self._lock, self._is_first = lock, True
+        self.release, self._is_owned = lock.release, lock._is_owned
+
+    def acquire(self):
+        if self._is_first:
+            self._is_first = False
+            raise KeyboardInterrupt
+        return self._lock.acquire()
+
+    def __enter__(self):
+        return self._lock.acquire()
+
+    def __exit__(self, *_):
+        self._lock.release()
 
 
 class Forks(WithServer):

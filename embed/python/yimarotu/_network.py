@@ -7,7 +7,8 @@ from __future__ import annotations
 
 import errno
 import socket
-from typing import Any, Dict, List, NamedTuple, Optional, Tuple
+from collections import deque
+from typing import Any, Deque, Dict, NamedTuple, Optional, Tuple
 
 from . import _numbers as numbers
 from ._driven import DrivenSession, asleep
@@ -80,6 +81,8 @@ class Network:
         self._places: Dict[Tuple[bytes, int, int], Place] = {}
         # Whether something was sent, so that time may end something sooner than was said before.
         self.has_sent = False
+        # The look-ups that are done, and of which nobody was told.
+        self.done: Deque[int] = deque()
         self._asleep = asleep()
 
     def watch(self, channel: Channel) -> None:
@@ -94,10 +97,9 @@ class Network:
         """It is watched no more: its socket is about to be closed."""
         raise NotImplementedError
 
-    def act(self) -> List[int]:
-        """Does what is to be done, and gives the numbers of the look-ups that are done."""
+    def act(self) -> None:
+        """Does what is to be done, and puts the numbers of the look-ups that are done into `done`."""
         session, following = self.session, self.session.next
-        done: List[int] = []
         if self._has_slept():
             self._let_go()
         while True:
@@ -106,9 +108,9 @@ class Network:
             if kind == numbers.CONTINUE:
                 continue
             if kind == numbers.NOTHING:
-                return done
+                return
             if kind == numbers.LOOKED_UP:
-                done.append(int(action.number))
+                self.done.append(int(action.number))
             elif kind == numbers.OPEN:
                 self._open(action)
             elif kind == numbers.SEND:

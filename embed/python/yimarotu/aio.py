@@ -20,6 +20,9 @@ if TYPE_CHECKING:
 
 __all__ = ["Resolver", "resolver_for_aiohttp"]
 
+# Where something could not be done, as for want of memory, it is tried again so many seconds later.
+AGAIN = 0.05
+
 
 class Driver(Network):
     """A session whose sockets are watched by an event loop."""
@@ -48,12 +51,16 @@ class Driver(Network):
                 self.loop.remove_writer(channel.sock.fileno())
 
     def _readable(self, channel: Channel) -> None:
-        self.receive(channel)
-        self._settle()
+        try:
+            self.receive(channel)
+        finally:
+            self._settle()
 
     def _writable(self, channel: Channel) -> None:
-        self.flush(channel)
-        self._settle()
+        try:
+            self.flush(channel)
+        finally:
+            self._settle()
 
     async def look_up(self, request: Request[Given], timeout: Optional[float]) -> Given:
         """What a look-up came to."""
@@ -83,22 +90,32 @@ class Driver(Network):
                 limit.cancel()
 
     def _settle(self) -> None:
-        """Does what is to be done, tells those whose look-up is done, and sets the timer anew."""
-        for number in self.act():
-            waiting = self._waiting.get(number)
-            if waiting is not None and not waiting.done():
-                waiting.set_result(None)
+        """Does what is to be done, tells those whose look-up is done, and sets the timer anew: also where not all of it
+        was done."""
+        try:
+            self.act()
+        except BaseException:
+            self._tick_within(AGAIN)
+            raise
+        finally:
+            while self.done:
+                waiting = self._waiting.get(self.done[0])
+                if waiting is not None and not waiting.done():
+                    waiting.set_result(None)
+                self.done.popleft()
         if self.has_sent or self._timer is None and (self._waiting or self.channels):
             self.has_sent = False
             self._set_timer()
 
     def _set_timer(self) -> None:
-        """Where the timer would come too late, it is set anew. One that comes too early does no harm."""
         wait = self.session.wait()
-        if wait is None:
-            return
-        # (a millisecond that has begun counts whole)
-        due = self.loop.time() + (wait + 1) / 1000
+        if wait is not None:
+            # (a millisecond that has begun counts whole)
+            self._tick_within((wait + 1) / 1000)
+
+    def _tick_within(self, seconds: float) -> None:
+        """Where the timer would come too late, it is set anew. One that comes too early does no harm."""
+        due = self.loop.time() + seconds
         if self._timer is None or due < self._due:
             if self._timer is not None:
                 self._timer.cancel()
@@ -106,8 +123,13 @@ class Driver(Network):
 
     def _tick(self) -> None:
         self._timer = None
-        self.session.tick()
-        self._settle()
+        try:
+            self.session.tick()
+        except BaseException:
+            self._tick_within(AGAIN)
+            raise
+        finally:
+            self._settle()
 
     def close(self) -> None:
         if self.is_closed:

@@ -7,7 +7,7 @@ import select
 import threading
 import time
 from types import TracebackType
-from typing import Dict, Iterable, List, Optional, Tuple, Type, Union
+from typing import Any, Dict, Iterable, List, Optional, Tuple, Type, Union
 
 from . import _fork
 from ._driven import Statistics
@@ -24,20 +24,31 @@ __all__ = ["Resolver"]
 class Waiting:
     """A look-up that waits: whether it is done, and what its thread is woken by where another waits for the sockets."""
 
-    __slots__ = ("is_done", "_changed")
+    __slots__ = ("is_done", "_asleep")
 
     def __init__(self) -> None:
         self.is_done = False
-        self._changed: Optional[threading.Condition] = None
+        self._asleep: Optional[threading.Lock] = None
 
-    def wait(self, lock: threading.Lock, timeout: Optional[float]) -> None:
-        if self._changed is None:
-            self._changed = threading.Condition(lock)
-        self._changed.wait(timeout)
+    def wait(self, lock: Any, timeout: Optional[float]) -> None:
+        """Waits until it is woken, without the lock. (A `threading.Condition` may end without it, where a signal has
+        something raised.)"""
+        self._asleep = asleep = threading.Lock()
+        asleep.acquire()
+        try:
+            lock.release()
+            asleep.acquire(timeout=-1 if timeout is None else timeout)
+        finally:
+            try:
+                lock.acquire()
+            except BaseException:
+                _take(lock)
+                raise
 
     def wake(self) -> None:
-        if self._changed is not None:
-            self._changed.notify()
+        asleep, self._asleep = self._asleep, None
+        if asleep is not None:
+            asleep.release()
 
 
 class Driver(Network):
@@ -46,7 +57,8 @@ class Driver(Network):
 
     def __init__(self, given: Opening, watcher: Optional[Watcher] = None) -> None:
         super().__init__(given, watcher)
-        self.lock = threading.Lock()
+        # One that knows who has it: where a signal has something raised as it is taken, it may be taken or not.
+        self.lock: Any = threading.RLock()
         self.is_closed = self._is_driven = False
         self._waiting: Dict[int, Waiting] = {}
         self._next_number = 1
@@ -73,6 +85,8 @@ class Driver(Network):
     def look_up(self, request: Request[Given], timeout: Optional[float]) -> Given:
         """What a look-up came to."""
         until = None if timeout is None else time.monotonic() + timeout
+        if self.lock._is_owned():
+            raise RuntimeError("a signal handler looks up within a look-up of its thread")
         with self.lock:
             self._check_open()
             number, self._next_number = self._next_number, self._next_number + 1
@@ -112,14 +126,18 @@ class Driver(Network):
         """Waits until something happens, and hands it in. Meanwhile other threads may start look-ups."""
         wait = self.session.wait()
         limits = [limit for limit in (wait, None if left is None else int(left * 1000)) if limit is not None]
-        self._is_driven = True
-        self.lock.release()
         try:
+            self._is_driven = True
+            self.lock.release()
             # (a millisecond that has begun counts whole)
             events = self._poll.poll(min(limits) + 1 if limits else None)
         finally:
-            self.lock.acquire()
             self._is_driven = False
+            try:
+                self.lock.acquire()
+            except BaseException:
+                _take(self.lock)
+                raise
         if self.is_closed:
             self._close_pipe()
         else:
@@ -139,14 +157,19 @@ class Driver(Network):
         self._settle()
 
     def _settle(self) -> None:
-        """Does what is to be done, and wakes those whose look-up is done, and who waits for the sockets."""
-        for number in self.act():
-            waiting = self._waiting.get(number)
-            if waiting is not None:
-                waiting.is_done = True
-                waiting.wake()
-        if self._is_driven:
-            self.wake()
+        """Does what is to be done, and wakes those whose look-up is done, and who waits for the sockets: also where not
+        all of it was done."""
+        try:
+            self.act()
+        finally:
+            while self.done:
+                waiting = self._waiting.get(self.done[0])
+                if waiting is not None:
+                    waiting.is_done = True
+                    waiting.wake()
+                self.done.popleft()
+            if self._is_driven:
+                self.wake()
 
     def wake(self) -> None:
         try:
@@ -159,10 +182,12 @@ class Driver(Network):
         del self._waiting[number]
         if self.is_closed:
             return
-        self.session.forget(number, is_done)
-        self._settle()
-        if self._waiting and not self._is_driven:
-            next(iter(self._waiting.values())).wake()
+        try:
+            self.session.forget(number, is_done)
+            self._settle()
+        finally:
+            if self._waiting and not self._is_driven:
+                next(iter(self._waiting.values())).wake()
 
     def close(self) -> None:
         with self.lock:
@@ -191,6 +216,12 @@ class Driver(Network):
         super().__del__()
         if getattr(self, "_wake", -1) >= 0:
             self._close_pipe()
+
+
+def _take(lock: Any) -> None:
+    """Takes a lock where this thread has not got it."""
+    if not lock._is_owned():
+        lock.acquire()
 
 
 def _drain(fd: int) -> None:
