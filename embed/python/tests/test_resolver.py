@@ -413,6 +413,19 @@ class Threads(WithServer):
         self.assertEqual([name for name, _ in told], ["slow", "silent", "silent"])
         self.assertTrue(3 <= told[1][1] < 6 <= told[2][1] < network.LONG, told)
 
+    def test_limits_without_end(self):
+        """One that is longer than the system can wait is none, for who waits for the sockets and for who does not."""
+        resolver, found = self.resolver(), []
+        limits = [float("inf"), 2.0**31, float("inf"), 1e12]
+        threads = [threading.Thread(
+            target=lambda limit=limit: found.append(str(resolver.lookup("slow.example.test", timeout=limit)[0].data))
+        ) for limit in limits]
+        for thread in threads:
+            thread.start()
+        for thread in threads:
+            thread.join(network.LONG)
+        self.assertEqual(found, ["192.0.2.10"] * len(limits))
+
     def test_equal_questions_are_sent_once(self):
         resolver, found = self.resolver(), []
 

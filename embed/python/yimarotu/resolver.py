@@ -20,6 +20,9 @@ from .records import type_number
 
 __all__ = ["Resolver"]
 
+# No wait is longer, in seconds: poll takes no number of milliseconds past 31 bits, and none that has no end.
+LONGEST = 60
+
 
 class Waiting:
     """A look-up that waits: whether it is done, and what its thread is woken by where another waits for the sockets."""
@@ -30,14 +33,14 @@ class Waiting:
         self.is_done = False
         self._asleep: Optional[threading.Lock] = None
 
-    def wait(self, lock: Any, timeout: Optional[float]) -> None:
+    def wait(self, lock: Any, timeout: float) -> None:
         """Waits until it is woken, without the lock. (A `threading.Condition` may end without it, where a signal has
         something raised.)"""
         self._asleep = asleep = threading.Lock()
         asleep.acquire()
         try:
             lock.release()
-            asleep.acquire(timeout=-1 if timeout is None else timeout)
+            asleep.acquire(timeout=timeout)
         finally:
             try:
                 lock.acquire()
@@ -116,21 +119,22 @@ class Driver(Network):
             left = None if until is None else until - time.monotonic()
             if left is not None and left <= 0:
                 raise Timeout("nobody answered in time", name)
+            left = LONGEST if left is None else min(left, LONGEST)
             if self._is_driven:
                 waiting.wait(self.lock, left)
             else:
                 self._drive(left)
             self._check_open()
 
-    def _drive(self, left: Optional[float]) -> None:
+    def _drive(self, left: float) -> None:
         """Waits until something happens, and hands it in. Meanwhile other threads may start look-ups."""
         wait = self.session.wait()
-        limits = [limit for limit in (wait, None if left is None else int(left * 1000)) if limit is not None]
+        limit = int(left * 1000) if wait is None else min(wait, int(left * 1000))
         try:
             self._is_driven = True
             self.lock.release()
             # (a millisecond that has begun counts whole)
-            events = self._poll.poll(min(limits) + 1 if limits else None)
+            events = self._poll.poll(limit + 1)
         finally:
             self._is_driven = False
             try:
