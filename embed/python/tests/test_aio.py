@@ -5,6 +5,7 @@ import ipaddress
 import os
 import time
 import unittest
+import unittest.mock
 
 import network
 import yimarotu
@@ -145,6 +146,27 @@ class Waiting(WithServer):
                 return await task
 
         self.assertEqual(str(self.run_with(work)[0].data), "192.0.2.12")
+        self.assertEqual(self.server.count("held"), 2)
+
+    def test_what_came_while_the_loop_was_blocked(self):
+        """It is let go, and the question is sent anew."""
+        async def work(resolver):
+            task = asyncio.ensure_future(resolver.lookup("held.example.test", timeout=network.LONG))
+            await asyncio.sleep(0)
+            self.server.wait_for("held", 1)
+            (channel,) = resolver._driver.channels.values()
+            self.server.release()
+            network.wait_until_readable(channel.sock)
+            # (for longer than the loop was to wait)
+            time.sleep(1.5)
+            while self.server.count("held") < 2 and not task.done():
+                await asyncio.sleep(0.01)
+            self.server.release()
+            return await task
+
+        with unittest.mock.patch.object(aio, "STILL", 0.1):
+            found = self.run_with(work, settings=["option timeout 1", "option attempts 2"])
+        self.assertEqual(str(found[0].data), "192.0.2.12")
         self.assertEqual(self.server.count("held"), 2)
 
     def failing(self, name, call, *words, **settings):

@@ -12,6 +12,7 @@ import threading
 import time
 import tracemalloc
 import unittest
+import unittest.mock
 
 import network
 import yimarotu
@@ -588,6 +589,24 @@ class Sleeping(WithServer):
             self.server.wait_for("held", 2)
             self.server.release()
             thread.join(60)
+        self.assertEqual([str(it[0].data) for it in found], ["192.0.2.12"])
+        self.assertEqual(self.server.count("held"), 2)
+
+    def test_what_came_while_the_program_stood_still(self):
+        """The same where the thread that waits for the sockets could not run for long."""
+        found = []
+        resolver = self.resolver(settings=["option timeout 1", "option attempts 2"])
+        self.stack.enter_context(unittest.mock.patch.object(yimarotu.resolver, "STILL", 0.1))
+        thread = threading.Thread(target=lambda: found.append(resolver.lookup("held.example.test", timeout=60)))
+        thread.start()
+        self.server.wait_for("held", 1)
+        with resolver._driver.lock:
+            self.server.release()
+            # (for longer than it was to wait)
+            time.sleep(1.5)
+        self.server.wait_for("held", 2)
+        self.server.release()
+        thread.join(60)
         self.assertEqual([str(it[0].data) for it in found], ["192.0.2.12"])
         self.assertEqual(self.server.count("held"), 2)
 

@@ -21,8 +21,9 @@ LOCAL = {errno.EMFILE, errno.ENFILE, errno.ENOBUFS, errno.ENOMEM, errno.EADDRNOT
 NOT_YET = {errno.EAGAIN, errno.EWOULDBLOCK, errno.EINTR, errno.EINPROGRESS, errno.ENOTCONN, errno.EALREADY}
 # The most octets that are read at once: a whole datagram.
 MOST = 65535
-# More datagrams than a socket holds, and the milliseconds of a sleep after which it matters when they came.
-MOST_LET_GO, SLEPT = 4096, 1000
+# More datagrams than a socket holds, the milliseconds of a sleep after which it matters when they came, and the seconds
+# after which it does where the program stood still.
+MOST_LET_GO, SLEPT, STILL = 4096, 1000, 10
 KINDS = {
     numbers.DATAGRAM: socket.SOCK_DGRAM | socket.SOCK_NONBLOCK,
     numbers.STREAM: socket.SOCK_STREAM | socket.SOCK_NONBLOCK,
@@ -101,7 +102,7 @@ class Network:
         """Does what is to be done, and puts the numbers of the look-ups that are done into `done`."""
         session, following = self.session, self.session.next
         if self._has_slept():
-            self._let_go()
+            self.let_go()
         while True:
             action = following()
             kind = action.kind
@@ -168,7 +169,7 @@ class Network:
     def receive(self, channel: Channel) -> None:
         """Hands in what came on a channel, or that it failed."""
         if self._has_slept():
-            self._let_go()
+            self.let_go()
             return
         try:
             octets = channel.sock.recv(MOST)
@@ -189,12 +190,16 @@ class Network:
         else:
             self._fail(channel, None)
 
-    def _has_slept(self) -> bool:
-        """Whether the machine slept since this was asked last."""
-        before, self._asleep = self._asleep, asleep()
-        return self._asleep >= before + SLEPT
+    def stood_still(self) -> bool:
+        """Whether the driver was to go on long ago. Where that is so it is told once."""
+        return False
 
-    def _let_go(self) -> None:
+    def _has_slept(self) -> bool:
+        """Whether the machine slept since this was asked last, or the program stood still."""
+        before, self._asleep, stood_still = self._asleep, asleep(), self.stood_still()
+        return stood_still or self._asleep >= before + SLEPT
+
+    def let_go(self) -> None:
         """What came before the machine woke is not handed in: its TTLs would count from now. Of a stream it is not
         known what did."""
         self.session.tick()

@@ -8,7 +8,7 @@ from typing import TYPE_CHECKING, Dict, Iterable, Optional, Type, Union
 
 from . import _fork
 from ._driven import Statistics
-from ._network import Channel, Network, Watcher
+from ._network import STILL, Channel, Network, Watcher
 from ._requests import ForAddresses, ForRecords, Given, Request, octets_of, pointer_of
 from ._settings import CACHE_OCTETS, RESOLV_CONF, File, Opening, Server, opening, read
 from .answers import Addresses, Answer, Names
@@ -61,6 +61,14 @@ class Driver(Network):
             self.flush(channel)
         finally:
             self._settle()
+
+    def stood_still(self) -> bool:
+        """Whether the loop was blocked: the timer is late."""
+        if self._timer is None or self.loop.time() < self._due + STILL:
+            return False
+        self._timer.cancel()
+        self._timer = None
+        return True
 
     async def look_up(self, request: Request[Given], timeout: Optional[float]) -> Given:
         """What a look-up came to."""

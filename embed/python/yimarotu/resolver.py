@@ -11,7 +11,7 @@ from typing import Any, Dict, Iterable, List, Optional, Tuple, Type, Union
 
 from . import _fork
 from ._driven import Statistics
-from ._network import Channel, Network, Watcher
+from ._network import STILL, Channel, Network, Watcher
 from ._requests import ForAddresses, ForRecords, Given, Request, octets_of, pointer_of
 from ._settings import CACHE_OCTETS, RESOLV_CONF, File, Opening, Server, opening, read
 from .answers import Addresses, Answer, Names
@@ -127,9 +127,11 @@ class Driver(Network):
             self._check_open()
 
     def _drive(self, left: float) -> None:
-        """Waits until something happens, and hands it in. Meanwhile other threads may start look-ups."""
+        """Waits until something happens, and hands it in. Meanwhile other threads may start look-ups. Where the program
+        stood still what came is let go."""
         wait = self.session.wait()
         limit = int(left * 1000) if wait is None else min(wait, int(left * 1000))
+        due = time.monotonic() + limit / 1000
         try:
             self._is_driven = True
             self.lock.release()
@@ -143,9 +145,10 @@ class Driver(Network):
                 _take(self.lock)
                 raise
         if self.is_closed:
-            self._close_pipe()
-        else:
-            self._take(events)
+            return self._close_pipe()
+        if time.monotonic() >= due + STILL:
+            self.let_go()
+        self._take(events)
 
     def _take(self, events: List[Tuple[int, int]]) -> None:
         for fd, mask in events:

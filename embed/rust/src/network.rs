@@ -13,8 +13,8 @@ use crate::{ChannelFailure, Protocol};
 const ROOM: usize = 1 << 16;
 /// What may wait for a stream.
 const OUT: usize = 1 << 20;
-/// No wait is longer, in milliseconds.
-const LONGEST: u128 = 60_000;
+/// No wait is longer.
+pub(crate) const LONGEST: Duration = Duration::from_secs(60);
 /// A descriptor that poll passes over.
 const NONE: i32 = -1;
 /// Where the machine slept for so long, it matters when something came.
@@ -101,6 +101,11 @@ impl Network {
         }
     }
 
+    /// Whether no channel is open.
+    pub(crate) fn is_empty(&self) -> bool {
+        self.channels.is_empty()
+    }
+
     /// Whether the machine slept since this was asked last.
     pub(crate) fn has_slept(&mut self) -> bool {
         let before = std::mem::replace(&mut self.asleep, system::asleep());
@@ -129,7 +134,7 @@ impl Network {
 
     /// Waits until something happens, for so long at most.
     pub(crate) fn wait(&mut self, longest: Option<Duration>) -> io::Result<()> {
-        let longest = longest.map_or(LONGEST, |it| it.as_millis().min(LONGEST));
+        let longest = longest.map_or(LONGEST, |it| it.min(LONGEST)).as_millis();
         system::wait_for(&mut self.polled, i32::try_from(longest).unwrap_or(0))?;
         Ok(())
     }

@@ -22,6 +22,8 @@ const RESOLV_CONF: &str = "/etc/resolv.conf";
 const HOSTS: &str = "/etc/hosts";
 /// An answer has all its records.
 const NO_LIMIT: usize = usize::MAX;
+/// What came is let go where nobody looked for so long.
+const STILL: Duration = Duration::from_secs(10);
 
 /// A resolver to be: what it will be opened over.
 ///
@@ -126,6 +128,7 @@ impl ResolverBuilder {
             network: Network::default(),
             done: HashSet::new(),
             last: 0,
+            looked: Moment::now(),
         };
         Ok(Resolver {
             driven: driven.into(),
@@ -403,6 +406,8 @@ struct Driven {
     done: HashSet<u64>,
     /// The number of the latest look-up.
     last: u64,
+    /// When somebody looked at the sockets last.
+    looked: Moment,
 }
 
 impl Driven {
@@ -418,22 +423,27 @@ impl Driven {
         Ok(number)
     }
 
-    /// Where the machine slept, what came before it woke is not handed in: its TTLs would count
-    /// from now.
-    fn wake(&mut self) -> Result<(), ResolveError> {
-        if !self.network.has_slept() {
-            return Ok(());
-        }
+    /// Where the machine slept, or nobody looked at the sockets for long past such a wait, what came
+    /// meanwhile is not handed in: its TTLs would count from now. Tells whether that was so.
+    fn wake(&mut self, waited: Duration) -> Result<bool, ResolveError> {
         let (session, now) = (&mut self.session, Moment::now());
+        if self.network.is_empty() {
+            self.looked = now;
+        }
+        let is_late = now.saturating_duration_since(self.looked) >= waited + STILL;
+        if !self.network.has_slept() && !is_late {
+            return Ok(false);
+        }
+        self.looked = now;
         session.tick(now)?;
         self.network
             .let_go(|channel| session.failed(channel, ChannelFailure::Closed, now))?;
-        Ok(())
+        Ok(true)
     }
 
     /// Does what is to be done.
     fn act(&mut self) -> Result<(), ResolveError> {
-        self.wake()?;
+        self.wake(Duration::ZERO)?;
         loop {
             let failed = match self.session.next()? {
                 Action::Nothing => return Ok(()),
@@ -469,17 +479,23 @@ impl Driven {
     }
 
     /// Waits until something happens, up to a moment at most, hands it in, and does what is to be
-    /// done then.
+    /// done then. It does not wait where it woke.
     fn turn(&mut self, now: Moment, ends: Option<Moment>) -> Result<(), ResolveError> {
+        if self.wake(Duration::ZERO)? {
+            return self.act();
+        }
+        self.looked = now;
         // A millisecond more, since it may be one that began.
         let of_session = self
             .session
             .wait(now)?
             .map(|it| it + Duration::from_millis(1));
         let of_call = ends.map(|ends| ends.saturating_duration_since(now));
-        let longest = [of_session, of_call].into_iter().flatten().min();
+        let limits = [Some(network::LONGEST), of_session, of_call];
+        let longest = limits.into_iter().flatten().min();
         self.network.wait(longest)?;
-        self.wake()?;
+        self.wake(longest.unwrap_or_default())?;
+        self.looked = Moment::now();
         let session = &mut self.session;
         self.network
             .tell(|channel, event| hand_in(session, channel, &event))?;
@@ -527,7 +543,8 @@ fn hand_in(session: &mut Session, channel: u64, event: &Event<'_>) -> Result<(),
 }
 
 /// A look-up that was started. When it is dropped it is cancelled, and what only it had open is
-/// closed.
+/// closed. Where no call waited for ten seconds, what came meanwhile is let go, and asked for anew:
+/// how long it may be used counts from when it is read.
 ///
 /// ```no_run
 /// # use yimarotu::{Resolver, ResolveError};
@@ -588,5 +605,44 @@ impl<T> fmt::Debug for Pending<'_, T> {
         f.debug_struct("Pending")
             .field("number", &self.number)
             .finish_non_exhaustive()
+    }
+}
+
+#[cfg(test)]
+mod tests {
+    use std::net::{IpAddr, UdpSocket};
+    use std::thread;
+
+    use super::*;
+
+    /// Answers the next question with one address (RFC 1035, section 4.1).
+    fn answer(server: &UdpSocket, address: [u8; 4]) {
+        let mut room = [0; 512];
+        let (_, peer) = server.recv_from(&mut room).unwrap();
+        let end = room[12..].iter().position(|octet| *octet == 0).unwrap() + 17;
+        let counts = [0x81, 0x80, 0, 1, 0, 1, 0, 0, 0, 0];
+        let record = [0xc0, 12, 0, 1, 0, 1, 0, 0, 0, 60, 0, 4];
+        let (id, question) = (&room[..2], &room[12..end]);
+        let response = [id, &counts, question, &record, &address].concat();
+        server.send_to(&response, peer).unwrap();
+    }
+
+    #[test]
+    fn what_came_while_nobody_looked_is_let_go() {
+        let server = UdpSocket::bind("127.0.0.1:0").unwrap();
+        let resolver = Resolver::builder_without_system()
+            .server(server.local_addr().unwrap())
+            .option("ip_strategy", "Ipv4Only")
+            .option("timeout", 1)
+            .build()
+            .unwrap();
+        let pending = resolver.start_lookup_ip("www.example.test.").unwrap();
+        answer(&server, [192, 0, 2, 1]);
+        // (the machine was started longer ago than that)
+        resolver.driven.borrow_mut().looked = Moment::default();
+        let again = thread::spawn(move || answer(&server, [192, 0, 2, 2]));
+        let found: Vec<IpAddr> = pending.wait().unwrap().iter().collect();
+        assert_eq!(found, ["192.0.2.2".parse::<IpAddr>().unwrap()]);
+        again.join().unwrap();
     }
 }
