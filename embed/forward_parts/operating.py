@@ -364,6 +364,23 @@ def many_processes(cases, daemon):
     cases.tell("the processes end with it", True, "")
 
 
+def first_ids(daemon, count):
+    """The id of the first question of each process of a program that begins."""
+    with stub.running() as server, daemon.over(server, f"processes {count}") as running:
+        for _ in range(20 * count):
+            asking.by_udp(running.port, "four.example.test")
+        return [asked[2] for asked in server.questions_for("four.example.test.")]
+
+
+def seeds(cases, daemon):
+    """Each process has a seed of its own, and another one each time it begins: it asks with other ids."""
+    count = 3
+    found = [first_ids(daemon, count) for _ in range(2)]
+    cases.equal("each process asks once", [len(ids) for ids in found], [count] * 2)
+    # (by chance two may be the same)
+    cases.tell("first ids of the processes, begun twice", len({*found[0], *found[1]}) >= 2 * count - 1, found)
+
+
 def deaths_ignored(cases, daemon):
     """A process that dies is started again, also where who began the program ignored such a signal."""
     with stub.running() as server:
@@ -510,5 +527,5 @@ def activated_deaf(cases, daemon):
 
 
 ALL = (checked, in_use, reloaded, hosts, controlled, dumped_whole, dumped_escaped, sender_gone, counted, logged,
-       log_stays, long_log, unprivileged, unfit, many_processes, deaths_ignored, reloaded_by_command, many_logs, one_control,
-       notified, activated, activated_control, activated_deaf)
+       log_stays, long_log, unprivileged, unfit, many_processes, seeds, deaths_ignored, reloaded_by_command, many_logs,
+       one_control, notified, activated, activated_control, activated_deaf)

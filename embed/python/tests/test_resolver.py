@@ -375,20 +375,21 @@ class Closing(WithServer):
 
 class Threads(WithServer):
     def test_many_threads(self):
-        resolver, faults = self.resolver(), []
+        resolver, found = self.resolver(), []
 
         def look_up(first):
             for number in range(first, first + 50):
-                found = resolver.lookup(f"n{number % 400}.example.test")
-                if str(found[0].data) != str(ipaddress.ip_address(0x0A000000 + number % 400)):
-                    faults.append((number, found))
+                answer = resolver.lookup(f"n{number % 400}.example.test")
+                found.append((number % 400, str(answer[0].data)))
 
         threads = [threading.Thread(target=look_up, args=(25 * number,)) for number in range(20)]
         for thread in threads:
             thread.start()
         for thread in threads:
             thread.join(60)
-        self.assertEqual(faults, [])
+        asked = [number % 400 for at in range(20) for number in range(25 * at, 25 * at + 50)]
+        wanted = [(number, str(ipaddress.ip_address(0x0A000000 + number))) for number in asked]
+        self.assertEqual(sorted(found), sorted(wanted))
         self.assertEqual(resolver.statistics().sent, 400)
 
     def test_slow_and_fast(self):
@@ -537,15 +538,25 @@ class Forks(WithServer):
         resolver.lookup("www.example.test")
         self.assertEqual(self.server.count(), 1)
 
+    def ids_of(self, ask):
+        """The ids of the two questions that are asked: one alone may be the same by chance."""
+        self.server.asked.clear()
+        ask()
+        self.assertEqual(self.server.count(), 2)
+        return tuple(query.octets[:2] for query in self.server.asked)
+
     def test_another_seed(self):
-        """Parent and child ask the same with other ids, from other ports."""
+        """Parent and children ask the same with other ids."""
         resolver = self.resolver()
-        ids = []
-        for turn in range(3):
-            self.server.asked.clear()
-            self.in_child(lambda: bool(resolver.lookup("four.example.test")))
-            ids.append((self.server.asked[0].octets[:2], self.server.asked[0].port))
-        self.assertEqual(len(set(ids)), 3)
+
+        def ask():
+            return [resolver.lookup(f"{name}.example.test") for name in ("four", "www")]
+
+        def ask_in_child():
+            self.assertEqual(self.in_child(ask), 0)
+
+        found = {self.ids_of(ask), *(self.ids_of(ask_in_child) for _ in range(3))}
+        self.assertEqual(len(found), 4, found)
 
     def test_in_mid_look_up(self):
         """A child of a fork while another thread waits; that one goes on."""
