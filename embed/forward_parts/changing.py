@@ -129,12 +129,17 @@ class Machine:
 
     def __init__(self, folder, library):
         self._file = folder / f"slept{time.monotonic_ns()}"
-        self._slept = self._late = self._sleeps = 0
+        self._slept = self._late = self._sleeps = self._stood = 0
         self._tell()
         self.environment = {**os.environ, "LD_PRELOAD": str(library), "SLEPT": str(self._file)}
 
     def sleep(self, milliseconds):
         self._slept += milliseconds
+        self._tell()
+
+    def stand_still(self, milliseconds):
+        """It does not sleep, but nothing runs for so long."""
+        self._stood += milliseconds
         self._tell()
 
     def accept_late(self, milliseconds):
@@ -150,7 +155,7 @@ class Machine:
     def _tell(self):
         self._file.touch()
         with self._file.open("r+b", buffering=0) as file:
-            file.write(struct.pack("@QQQ", self._slept, self._late, self._sleeps))
+            file.write(struct.pack("@4Q", self._slept, self._late, self._sleeps, self._stood))
 
 
 def slept(cases, daemon):
@@ -303,6 +308,26 @@ def left_between_events(cases, daemon):
         cases.equal("what is told of a reply that came before it slept between two events", found, (7, "SERVFAIL"))
 
 
+def left_while_it_stood(cases, daemon):
+    """The same where the machine did not sleep, but the program stood still."""
+    if daemon.name.endswith(".sanitized"):
+        return
+    machine = Machine(daemon.folder, daemon.program.parent / "sleeping.so")
+    with asked_for_late(daemon, machine) as (running, client, upstream, asked), asking.stream(running.port):
+        # (with one it is to look at the clock each second)
+        wait_until(lambda: running.counts()["connections"] == 2, "the connection is taken in")
+        with running.stopped():
+            upstream.answer(asked, (LIFE, "IN", "A", "192.0.2.1"))
+            machine.stand_still(NAP)
+        # (it goes on, and then time ends what waits)
+        asking.by_udp(running.port, "localhost")
+        machine.sleep(NAP)
+        asking.by_udp(running.port, "localhost")
+        reply = dns.message.from_wire(client.recv(512))
+        found = reply.id, asking.addresses(reply)
+        cases.equal("what is told of a reply that came while it stood still", found, (7, "SERVFAIL"))
+
+
 def stream_at_waking(cases, daemon):
     """A stream that is opened at waking, since time ended what was asked before, is not closed as one of before."""
     if daemon.name.endswith(".sanitized"):
@@ -324,4 +349,5 @@ def stream_at_waking(cases, daemon):
         cases.equal("how often it is asked there", len(server.questions_for("four.example.test.")), 1)
 
 
-ALL = (under_load, killed, slept, stalled, stale, left_in_socket, left_between_events, stream_at_waking)
+ALL = (under_load, killed, slept, stalled, stale, left_in_socket, left_between_events, left_while_it_stood,
+       stream_at_waking)

@@ -1,5 +1,6 @@
 """Octets that are no messages, from clients and from servers; and memory that runs out."""
 import contextlib
+import ctypes
 import functools
 import os
 import random
@@ -8,6 +9,7 @@ import socket
 import struct
 import threading
 import time
+from pathlib import Path
 
 import dns.message
 import dns.rrset
@@ -22,6 +24,9 @@ DATAGRAMS, CONNECTIONS, NAMES = 5_000, 100, 100
 # rounds are a part of them; the questions of a round; and for how many seconds a reply is waited for, as none may come
 # where there is no memory for it.
 MEMORY, ROUNDS, PART, EACH, PATIENCE = 16 << 20, 1_000, 10, 40, 3
+# As the headers of the system have them: a call, options of sockets, and that what ICMP says does not count (ip(7)).
+SYSTEM, PIDFD_GETFD = ctypes.CDLL(None, use_errno=True), 438
+IP_MTU_DISCOVER, IPV6_MTU_DISCOVER, OMIT = 10, 23, 5
 # For how many seconds a server may be silent, and within how many it is known that one is gone.
 TIMEOUT, SOON = 60, 20
 
@@ -199,4 +204,54 @@ def without_room(cases, daemon):
         cases.equal("a query for which the kernel had no room", told, ["192.0.2.4"])
 
 
-ALL = (clients, servers, without_memory, short_of_memory, without_room)
+def sockets_of(pid):
+    """Those of another program, as this one may look at them. Where the system lets none be had, that is an error."""
+    process = os.pidfd_open(pid)
+    try:
+        for file in Path(f"/proc/{pid}/fd").iterdir():
+            if not os.readlink(file).startswith("socket:"):
+                continue
+            fd = SYSTEM.syscall(PIDFD_GETFD, process, int(file.name), 0)
+            if fd < 0:
+                raise OSError(ctypes.get_errno(), "pidfd_getfd")
+            with socket.socket(fileno=fd) as sock:
+                yield sock
+    finally:
+        os.close(process)
+
+
+def path_mtu_told(pid):
+    """Of each socket for datagrams: its family, what it makes of the size of a path that ICMP tells, and whether it is
+    connected. By one of IPv6 clients of IPv4 may come, too."""
+    found = []
+    for sock in sockets_of(pid):
+        if sock.type != socket.SOCK_DGRAM or sock.family == socket.AF_UNIX:
+            continue
+        how = [sock.getsockopt(socket.IPPROTO_IP, IP_MTU_DISCOVER)]
+        if sock.family == socket.AF_INET6:
+            how.append(sock.getsockopt(socket.IPPROTO_IPV6, IPV6_MTU_DISCOVER))
+        with contextlib.suppress(OSError):
+            sock.getpeername()
+            how.append("connected")
+        found.append((sock.family.name, *how))
+    return sorted(found, key=str)
+
+
+def path_mtu(cases, daemon):
+    """What ICMP says of the size of a path is believed by no socket for clients, and by none for servers."""
+    listening = [("AF_INET", OMIT), ("AF_INET6", OMIT, OMIT)]
+    for address, own in (("127.0.0.1", ("AF_INET", OMIT, "connected")), ("::1", ("AF_INET6", OMIT, OMIT, "connected"))):
+        with contextlib.ExitStack() as stack:
+            silent = stack.enter_context(socket.socket(asking.family_of(address), socket.SOCK_DGRAM))
+            silent.bind((address, 0))
+            silent.settimeout(SOON)
+            lines = [f"server {address} {silent.getsockname()[1]} udp", f"option timeout {TIMEOUT}"]
+            running = stack.enter_context(daemon.running(*lines, listens=("127.0.0.1", "::1")))
+            client = stack.enter_context(asking.datagrams(running.port))
+            client.send(asking.query("path.example.test").to_wire())
+            silent.recv(512)
+            wanted = sorted([*listening, own], key=str)
+            cases.equal(f"sockets, with a server at {address}", path_mtu_told(running.pid), wanted)
+
+
+ALL = (clients, servers, without_memory, short_of_memory, without_room, path_mtu)

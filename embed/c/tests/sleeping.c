@@ -1,6 +1,7 @@
 /* A machine that slept, or is slow. Loaded into a program before the C library (LD_PRELOAD) it puts its CLOCK_BOOTTIME
- * forward, while other clocks stay, has accept4(2) give each connection late, and sleeps when it gave one. For how many
- * milliseconds stands in the file that the variable SLEPT names, in eight octets each. */
+ * forward, while other clocks stay, has accept4(2) give each connection late, and sleeps when it gave one. Where a
+ * program stood still CLOCK_MONOTONIC goes forward, too. For how many milliseconds stands in the file that the variable
+ * SLEPT names, in eight octets each. */
 #define _GNU_SOURCE
 #include <fcntl.h>
 #include <stdint.h>
@@ -12,7 +13,7 @@
 #include <unistd.h>
 
 struct told {
-    uint64_t slept, late, sleeps;
+    uint64_t slept, late, sleeps, stood;
 };
 
 static const volatile struct told *told;
@@ -29,8 +30,8 @@ __attribute__((constructor)) static void begin(void) {
 
 int clock_gettime(clockid_t clock, struct timespec *time) {
     int ended = (int)syscall(SYS_clock_gettime, clock, time);
-    if (ended != 0 || clock != CLOCK_BOOTTIME || told == NULL) return ended;
-    uint64_t milliseconds = told->slept + slept_here;
+    if (ended != 0 || (clock != CLOCK_BOOTTIME && clock != CLOCK_MONOTONIC) || told == NULL) return ended;
+    uint64_t milliseconds = told->stood + (clock == CLOCK_BOOTTIME ? told->slept + slept_here : 0);
     time->tv_sec += (time_t)(milliseconds / 1000), time->tv_nsec += (long)(milliseconds % 1000) * 1000000;
     if (time->tv_nsec >= 1000000000) time->tv_sec++, time->tv_nsec -= 1000000000;
     return 0;
