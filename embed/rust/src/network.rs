@@ -108,8 +108,13 @@ impl Network {
 
     /// Whether the machine slept since this was asked last.
     pub(crate) fn has_slept(&mut self) -> bool {
-        let before = std::mem::replace(&mut self.asleep, system::asleep());
-        self.asleep >= before + SLEPT
+        self.has_slept_for(system::asleep())
+    }
+
+    /// The same, where it has slept for so long in all.
+    fn has_slept_for(&mut self, asleep: Duration) -> bool {
+        let before = std::mem::replace(&mut self.asleep, asleep);
+        asleep >= before + SLEPT
     }
 
     /// Lets go of what came: datagrams are read and not told. Of a stream it is not known what came
@@ -327,11 +332,10 @@ mod tests {
     #[test]
     fn a_sleep_is_told_once() {
         let mut network = Network::default();
-        network.has_slept();
-        assert!(!network.has_slept());
-        network.asleep = network.asleep.saturating_sub(SLEPT);
-        assert_eq!(network.has_slept(), system::asleep() >= SLEPT);
-        assert!(!network.has_slept());
+        let slept = [0, 999, 999, 1998, 2998, 2998, 60_000, 60_000];
+        let told = slept.map(|it| network.has_slept_for(Duration::from_millis(it)));
+        let wanted = [false, false, false, false, true, false, true, false];
+        assert_eq!(told, wanted);
     }
 
     #[test]

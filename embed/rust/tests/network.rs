@@ -193,10 +193,10 @@ fn asks_once_more_where_a_stream_is_closed() {
 fn asks_the_second_server() {
     let good = Server::good(7);
     let failing = Server::new(|asked| vec![Does::Says(asked.reply(RESPONSE | SERVFAIL, &[], &[]))]);
-    let nobody = Nobody::new();
+    let (silent, nobody) = (Server::silent(), Nobody::new());
     let servers = [
         (failing.address, 20),
-        (Server::silent().address, 1),
+        (silent.address, 1),
         (nobody.address(), 20),
     ];
     for (first, timeout) in servers {
@@ -216,6 +216,7 @@ fn asks_the_second_server() {
         );
     }
     assert_eq!(failing.asked().len(), 1);
+    assert!(!silent.asked().is_empty());
 }
 
 #[test]

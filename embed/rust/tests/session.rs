@@ -191,29 +191,54 @@ fn time_and_failures_end_it() {
         (answer.found, answer.code),
         (Found::ResponseCode, ResponseCode::Refused)
     );
+}
+
+/// A session with a look-up, 3, that is asked by a stream, once.
+fn by_stream() -> Session {
+    let mut session = open("server 192.0.2.53 53 tcp\noption timeout 1\noption attempts 0\n");
+    session.start(3, NAME, RecordType::A, at(3000)).unwrap();
+    session
+}
+
+/// The stream that was opened.
+fn opened(did: &[Did]) -> u64 {
+    let opened = did.iter().find_map(|it| match it {
+        Did::Open(channel, Protocol::Tcp, ..) => Some(*channel),
+        _ => None,
+    });
+    opened.unwrap_or_else(|| panic!("{did:?}"))
+}
+
+#[test]
+fn a_stream_that_fails_twice_ends_it_before_its_time() {
     for failure in [
         ChannelFailure::Refused,
         ChannelFailure::Unreachable,
-        ChannelFailure::Local,
+        ChannelFailure::Closed,
     ] {
-        let mut session = open("server 192.0.2.53 53 tcp\noption timeout 1\noption attempts 0\n");
-        session.start(3, NAME, RecordType::A, at(3000)).unwrap();
-        let did = act(&mut session);
-        let Did::Open(channel, Protocol::Tcp, ..) = did[0] else {
-            panic!("{did:?}")
-        };
-        session.failed(channel, failure, at(3000)).unwrap();
-        act(&mut session);
-        session.tick(at(60_000)).unwrap();
-        act(&mut session);
-        session.tick(at(120_000)).unwrap();
-        act(&mut session);
+        let mut session = by_stream();
+        for _ in 0..2 {
+            let channel = opened(&act(&mut session));
+            session.failed(channel, failure, at(3000)).unwrap();
+        }
+        assert!(act(&mut session).contains(&Did::Done(3)), "{failure:?}");
         let found = session.answer(3, 512).unwrap().found;
-        assert!(
-            [Found::Upstream, Found::TimedOut].contains(&found),
-            "{failure:?} {found:?}"
-        );
+        assert_eq!(found, Found::Upstream, "{failure:?}");
     }
+}
+
+#[test]
+fn what_is_wanting_here_does_not_end_it_before_its_time() {
+    let mut session = by_stream();
+    let channel = opened(&act(&mut session));
+    session
+        .failed(channel, ChannelFailure::Local, at(3000))
+        .unwrap();
+    assert_eq!(act(&mut session), [Did::Close(channel)]);
+    assert_eq!(session.answer(3, 512), Err(SessionError::Waits));
+    session.tick(at(4000)).unwrap();
+    assert!(act(&mut session).contains(&Did::Done(3)));
+    assert_eq!(session.answer(3, 512).unwrap().found, Found::TimedOut);
 }
 
 #[test]
