@@ -45,19 +45,20 @@ def nobody_there(cases, daemon):
     with servers.nobody() as nobody, stub.running() as server:
         lines = [f"server 127.0.0.1 {nobody}", f"server 127.0.0.1 {server.port}", "option timeout 2"]
         with daemon.running(*lines) as running:
-            for name in ("www.example.test", "four.example.test", "mail.example.test"):
-                found = asking.addresses(asking.by_udp(running.port, name))
-                cases.tell(f"{name}, where nobody is at the first server", found != "SERVFAIL", found)
+            for name, address in (("www", "192.0.2.1"), ("four", "192.0.2.4"), ("mail", "192.0.2.25")):
+                found = asking.addresses(asking.by_udp(running.port, f"{name}.example.test"))
+                cases.equal(f"{name}, where nobody is at the first server", found, [address])
 
 
 def forged(cases, daemon):
     """Forged replies are not believed: of a server that lies, and ten thousand while the true one is late."""
     records = [*zone.RECORDS, "lied.example.test. 60 IN A 192.0.2.9", "late.example.test. 60 IN A 192.0.2.9"]
     with stub.running(records) as server:
-        lines = [f"server 127.0.0.1 {server.port}", "option timeout 30"]
+        # (what is cut off ends the first try)
+        lines = [f"server 127.0.0.1 {server.port}"] * 2 + ["option timeout 30"]
         with daemon.running(*lines) as running:
             found = asking.addresses(asking.by_udp(running.port, "lied.example.test"))
-            cases.tell("a server that lies", stub.LIE not in found, found)
+            cases.equal("a server that lies", found, ["192.0.2.9"])
             server.floods = FLOOD
             found = asking.addresses(asking.by_udp(running.port, "late.example.test"))
             cases.equal("a flood of forged replies", found, ["192.0.2.9"])

@@ -110,8 +110,11 @@ def servers(cases, daemon):
         with asking.datagrams(running.port) as sock:
             for number in range(NAMES):
                 sock.send(asking.query(f"n{number}.example.test").to_wire())
-            codes = {dns.message.from_wire(sock.recv(2048)).rcode() for _ in range(NAMES)}
+            replies = [dns.message.from_wire(sock.recv(2048)) for _ in range(NAMES)]
+        codes = {reply.rcode() for reply in replies}
         cases.tell(f"{NAMES} names of a server that replies with anything", codes <= {0, 2, 3}, codes)
+        found = sum(asking.addresses(reply) == ["192.0.2.4"] for reply in replies)
+        cases.tell("most have their address", found > NAMES // 2, found)
         cases.equal("the program is there", running.process.poll(), None)
 
 
@@ -134,11 +137,12 @@ def keeps_all(sock, running, rounds):
 
 
 def without_memory(cases, daemon):
-    """Where memory runs out it goes on, and tells what is kept."""
+    """Where memory runs out it goes on, and answers once there is some again."""
     if daemon.name.endswith(".sanitized"):
         return
     text = " ".join(['"' + "x" * 250 + '"'] * 4)
-    limit = functools.partial(resource.setrlimit, resource.RLIMIT_AS, (MEMORY, MEMORY))
+    most = resource.getrlimit(resource.RLIMIT_AS)[1]
+    limit = functools.partial(resource.setrlimit, resource.RLIMIT_AS, (MEMORY, most))
     with upstream(lambda query: [answered(query, (3600, "IN", "TXT", text))]) as port:
         lines = [f"server 127.0.0.1 {port} udp", "option attempts 1"]
         lines += ["option cache_octets 1073741824", "option greatest_ttl 86400"]
@@ -150,8 +154,10 @@ def without_memory(cases, daemon):
             cases.tell("memory runs out", not all(keeps_all(sock, running, part) for part in parts), running.counts())
             keeps_all(sock, running, range(ROUNDS, ROUNDS + PART))
             cases.equal("the program is there", running.process.poll(), None)
-            again = asking.by_udp(running.port, "first.example.test", "TXT", payload=1232)
-            cases.tell("it goes on", again.rcode() in (0, 2), again)
+            resource.prlimit(running.pid, resource.RLIMIT_AS, (most, most))
+            for name in ("first", "last"):
+                again = asking.by_udp(running.port, f"{name}.example.test", "TXT", payload=1232)
+                cases.equal(f"{name}, once there is memory again", (again.rcode(), len(again.answer)), (0, 1))
 
 
 def short_of_memory(cases, daemon):
@@ -163,8 +169,9 @@ def short_of_memory(cases, daemon):
     file.write_bytes(bytes(24))
     environment = {**os.environ, "LD_PRELOAD": str(daemon.program.parent / "short_of_memory.so"), "SHORT": str(file)}
     with contextlib.ExitStack() as stack:
-        listener = stack.enter_context(socket.create_server(("127.0.0.1", 0)))
-        lines = [f"server 127.0.0.1 {listener.getsockname()[1]} tcp", f"option timeout {TIMEOUT}", "option attempts 0"]
+        listener = socket.create_server(("127.0.0.1", 0))
+        place = listener.getsockname()
+        lines = [f"server 127.0.0.1 {place[1]} tcp", f"option timeout {TIMEOUT}", "option attempts 0"]
         running = stack.enter_context(daemon.running(*lines, env=environment))
         client = stack.enter_context(asking.datagrams(running.port))
         client.send(asking.query("late.example.test").to_wire())
@@ -179,6 +186,20 @@ def short_of_memory(cases, daemon):
         told, taken = asking.addresses(dns.message.from_wire(client.recv(512))), time.monotonic() - began
         is_right = told == "SERVFAIL" and taken < SOON
         cases.tell("a server that was gone while there was no memory", is_right, f"{told} after {taken} s")
+        listener = stack.enter_context(socket.create_server(place))
+        client.send(asking.query("back.example.test").to_wire())
+        answer_next(listener)
+        told = asking.addresses(dns.message.from_wire(client.recv(512)))
+        cases.equal("a server that came again", told, ["192.0.2.4"])
+
+
+def answer_next(listener):
+    """Answers the first query of the next stream."""
+    listener.settimeout(SOON)
+    with listener.accept()[0] as connection:
+        connection.settimeout(SOON)
+        wire = answered(dns.message.from_wire(connection.recv(512)[2:]), (60, "IN", "A", "192.0.2.4"))
+        connection.sendall(struct.pack(">H", len(wire)) + wire)
 
 
 def without_room(cases, daemon):
@@ -197,9 +218,7 @@ def without_room(cases, daemon):
         client.send(asking.query("room.example.test").to_wire())
         first = stack.enter_context(listener.accept()[0])
         cases.equal("nothing comes on the first", first.recv(512), b"")
-        second = stack.enter_context(listener.accept()[0])
-        wire = answered(dns.message.from_wire(second.recv(512)[2:]), (60, "IN", "A", "192.0.2.4"))
-        second.sendall(struct.pack(">H", len(wire)) + wire)
+        answer_next(listener)
         told = asking.addresses(dns.message.from_wire(client.recv(512)))
         cases.equal("a query for which the kernel had no room", told, ["192.0.2.4"])
 
