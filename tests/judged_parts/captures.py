@@ -9,6 +9,7 @@ import dns.flags
 import dns.message
 import dns.rrset
 
+from judged_parts import piped
 from yimarotu.streams import Segment, Streams
 
 RESOLVER, CLIENT, UPSTREAM = "192.0.2.1", "198.51.100.7", "203.0.113.53"
@@ -154,28 +155,25 @@ def kept_of_connection():
 def live(top, packets):
     """The lines of the first event, read before the capture ends."""
     words = [sys.executable, top / "tools/pcap2trace", "-", "--resolver", RESOLVER]
-    with subprocess.Popen(words, stdin=subprocess.PIPE, stdout=subprocess.PIPE) as process:
+    with piped.running(words) as process:
         process.stdin.write(HEAD + packets[0])
-        process.stdin.flush()
-        lines = [process.stdout.readline().decode() for _ in range(2)]
+        lines = [piped.line_within(process.stdout) for _ in range(2)]
         process.stdin.write(b"".join(packets[1:]))
-        process.stdin.close()
-        process.wait(timeout=60)
+        piped.ended(process)
     return lines
 
 
 def interrupted(top, packets):
     """How it ends by Ctrl-C while the capture goes on: its status and complaint."""
     words = [sys.executable, top / "tools/pcap2trace", "-", "--resolver", RESOLVER]
-    how = dict.fromkeys(("stdin", "stdout", "stderr"), subprocess.PIPE)
     # Whoever runs the tests may have it ignored.
-    how["preexec_fn"] = lambda: signal.signal(signal.SIGINT, signal.SIG_DFL)
-    with subprocess.Popen(words, **how) as process:
+    how = {"stderr": subprocess.PIPE, "preexec_fn": lambda: signal.signal(signal.SIGINT, signal.SIG_DFL)}
+    with piped.running(words, **how) as process:
         process.stdin.write(HEAD + packets[0])
-        process.stdin.flush()
-        process.stdout.readline()
+        piped.line_within(process.stdout)
         process.send_signal(signal.SIGINT)
-        process.wait(timeout=60)
+        # (while what goes in stays open)
+        process.wait(timeout=piped.SECONDS)
         return process.returncode, process.stderr.read().decode()
 
 

@@ -1,5 +1,4 @@
 """The three programs of docs/TRACES.md in a row, over a capture of loopback: a finding is told while it happens."""
-import select
 import subprocess
 import sys
 import time
@@ -8,6 +7,7 @@ import dns.message
 import dns.query
 
 from judged_parts.noting import ZONE, Notes, Upstream, free_ports
+from judged_parts.piped import ended, line_within
 from judged_parts.products import SETTINGS, TOP
 from judged_parts.resolvers import SLACK, running
 from live_parts.servers import ADDRESS
@@ -16,30 +16,25 @@ SECONDS_TO_START = 60
 TRIES_TO_FIND = 20
 
 
-def line_within(stream, seconds):
-    """The next line of a pipe, or nothing where none comes so soon."""
-    return stream.readline() if select.select([stream], [], [], seconds)[0] else ""
-
-
 def started(capture):
     """Whether tshark says that it captures."""
     until = time.monotonic() + SECONDS_TO_START
     while (left := until - time.monotonic()) > 0:
         line = line_within(capture.stderr, left)
-        if not line or b"Capturing on" in line:
+        if not line or "Capturing on" in line:
             return bool(line)
     return False
 
 
 def pipeline(program, port, upstream_port):
-    piped = {"stdout": subprocess.PIPE, "stderr": subprocess.PIPE}
+    piped = {"stdout": subprocess.PIPE, "stderr": subprocess.PIPE, "bufsize": 0}
     ports = f"udp port {port} or udp port {upstream_port}"
     capture = subprocess.Popen(["/usr/bin/tshark", "-i", "lo", "-l", "-F", "pcap", "-w", "-", ports], **piped)
     words = [sys.executable, TOP / "tools/pcap2trace", "-", "--resolver", ADDRESS, "--port", str(port),
              "--upstream-port", str(upstream_port)]
     trace = subprocess.Popen(words, stdin=capture.stdout, stdout=subprocess.PIPE)
     words = [program, "-", "--slack", str(SLACK)]
-    judge = subprocess.Popen(words, stdin=trace.stdout, stdout=subprocess.PIPE, text=True)
+    judge = subprocess.Popen(words, stdin=trace.stdout, stdout=subprocess.PIPE, bufsize=0)
     # Only the next program reads from each.
     capture.stdout.close()
     trace.stdout.close()
@@ -78,9 +73,9 @@ def cases(told, program, folder):
                 told.tell("a finding while the capture goes on", " stale by " in line and "host" in line
                           and capture.poll() is None, line)
                 capture.terminate()
-                text, _ = judge.communicate(timeout=120)
+                status, text, _ = ended(judge, 2 * SECONDS_TO_START)
                 text = line + text
-                told.tell("and the counts at its end", judge.returncode == 1 and "\ntold " in text and
+                told.tell("and the counts at its end", status == 1 and "\ntold " in text and
                           f"\nstale {text.count(' stale by ')}\n" in text, text)
         finally:
             upstream.end()

@@ -1,6 +1,8 @@
 """Cases of `resolve_judge`: its arguments, its statuses, and that it says a finding when it happens."""
 import subprocess
 
+from judged_parts import piped
+
 TRACE = """at 100 asked www.example.test. A
 at 100 received NOERROR www.example.test. A
 answer www.example.test. 60 IN A 192.0.2.1
@@ -21,13 +23,10 @@ def run(program, *words, lines=""):
 
 def first_line(program):
     """What is printed while the trace goes on."""
-    with subprocess.Popen([program, "-"], stdin=subprocess.PIPE, stdout=subprocess.PIPE, text=True) as process:
-        process.stdin.write(TRACE)
-        process.stdin.flush()
-        line = process.stdout.readline()
-        process.stdin.close()
-        process.stdout.read()
-        process.wait(timeout=60)
+    with piped.running([program, "-"]) as process:
+        process.stdin.write(TRACE.encode())
+        line = piped.line_within(process.stdout)
+        piped.ended(process)
     return line
 
 
