@@ -10,7 +10,9 @@ What can make a case fail is a fault of this repository, and not another's produ
 
 A telling counts from the moment that the kernel had it for the client, and not from when it was read. By as much as a
 response was late all the same, in whole seconds, more is allowed for rounding."""
+import signal
 import subprocess
+import sys
 import time
 from collections import namedtuple
 from concurrent.futures import ThreadPoolExecutor
@@ -28,6 +30,8 @@ from live_parts.servers import ADDRESS
 
 # A launcher may have to compile its program first.
 SECONDS_TO_START = 240
+# How long it may take to end, and its trace to be made, which with the full plan takes some five minutes.
+SECONDS_TO_END, SECONDS_TO_MAKE = 60, 3600
 TRIES_TO_START = 3
 # dnsmasq counts in whole seconds, and a machine that is busy adds to that.
 SLACK = 2
@@ -58,7 +62,16 @@ def running(words, port, folder, log):
                 time.sleep(0.05)
         yield
     finally:
-        process.terminate()
+        end(process)
+
+
+def end(process):
+    """Ends a program, also one that does not hear."""
+    process.terminate()
+    try:
+        process.wait(SECONDS_TO_END)
+    except subprocess.TimeoutExpired:
+        process.kill()
         process.wait()
 
 
@@ -114,14 +127,20 @@ def apart(make, *words):
     process = Process(target=lambda: there.send(outcome_of(make, words)))
     process.start()
     there.close()
-    made, problem = here.recv()
-    process.join()
+    is_made = here.poll(SECONDS_TO_MAKE)
+    made, problem = here.recv() if is_made else (None, f"took longer than {SECONDS_TO_MAKE} seconds")
+    if not is_made:
+        process.terminate()
+    process.join(SECONDS_TO_END)
+    process.kill()
     if problem:
         raise RuntimeError(problem)
     return made
 
 
 def outcome_of(make, words):
+    # Ended, it ends the resolver, too.
+    signal.signal(signal.SIGTERM, lambda *_: sys.exit(143))
     try:
         return make(*words), None
     except Exception as error:
