@@ -145,7 +145,7 @@ class Server:
 
     def wait_for(self, first, count):
         """Until it has been asked so often for this."""
-        counted(lambda: self.count(first), count)
+        wait_until(lambda: self.count(first) >= count, f"it is asked for {first}, {count} times")
 
     def release(self):
         """Sends the replies that it holds."""
@@ -299,11 +299,18 @@ def serve(sock, handle, ending, wait):
             handle(sock)
 
 
+def wait_until(is_so, what):
+    until = time.monotonic() + LONG
+    while not is_so():
+        if time.monotonic() > until:
+            raise AssertionError(f"in vain: {what}")
+        time.sleep(0.02)
+
+
 def counted(count, wanted):
     """What is counted. Where a number is wanted, it is waited for: the server has its time to close its streams."""
-    until = time.monotonic() + LONG
-    while wanted not in (None, count()) and time.monotonic() < until:
-        time.sleep(0.02)
+    if wanted is not None:
+        wait_until(lambda: count() == wanted, f"{wanted} are there")
     return count()
 
 
