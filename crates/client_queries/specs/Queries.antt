@@ -31,10 +31,14 @@ question_in octets h = if h.queries == 1 then question_end octets else None
 abbrev pub is_transfer : ℕ → Bool
 is_transfer code = (code == 251) || (code == 252)
 
--- Types that no record has: 0 (RFC 6895, section 3.1), OPT (RFC 6891), NXNAME (RFC 9824), TKEY, TSIG, and transfers and
--- mail of old (RFC 1035, section 3.2.3).
+-- Types that no record has: 0 (RFC 6895, section 3.1), OPT (RFC 6891), TKEY, TSIG, and transfers and mail of old (RFC
+-- 1035, section 3.2.3).
 abbrev pub is_no_type : ℕ → Bool
-is_no_type code = (code == 0) || (code == 41) || (code == 128) || (nat_le 249 code && nat_le code 254)
+is_no_type code = (code == 0) || (code == 41) || (nat_le 249 code && nat_le code 254)
+
+-- NXNAME stands in NSEC records alone, and is never asked for (RFC 9824, section 3.5).
+abbrev pub is_nxname : ℕ → Bool
+is_nxname code = code == 128
 
 -- ---- the records behind it: OPT at most, and what signs a message
 
@@ -49,7 +53,7 @@ edns_at at octets = record {
 abbrev pub with_opt : List ℕ → RecordPlace → Extras → Option Extras
 with_opt octets r x =
     if is_some x.edns || not r.of_root then None
-    else Some (record { edns = Some (edns_at r.fields octets); is_signed = x.is_signed })
+    else Some (record { edns = Some (edns_at r.fields octets); is_signed = false })
 
 -- a SIG that covers no type signs the message (RFC 2931, section 3)
 abbrev pub covers_no_type : List ℕ → RecordPlace → Bool
@@ -59,11 +63,12 @@ abbrev pub signs : List ℕ → RecordPlace → Bool
 signs octets r =
     (number_at octets r.fields == 250) || ((number_at octets r.fields == 24) && covers_no_type octets r)
 
--- one record more
+-- one record more; what signs the message is the last (RFC 8945, section 5.2)
 abbrev pub with_record : List ℕ → RecordPlace → Extras → Option Extras
 with_record octets r x =
+    if x.is_signed then None else (
     if number_at octets r.fields == 41 then with_opt octets r x
-    else Some (record { edns = x.edns; is_signed = x.is_signed || signs octets r })
+    else Some (record { edns = x.edns; is_signed = signs octets r }))
 
 abbrev pub no_extras : Extras
 no_extras = record { edns = None; is_signed = false }
@@ -103,8 +108,9 @@ is_later edns = option_map_or (λ e. nat_lt 0 e.version) edns false
 abbrev pub verdict_of_codes : ℕ → List ℕ → Verdict
 verdict_of_codes end octets =
     if asks_statistics end octets then Statistics else (
+    if is_nxname (type_before end octets) then Refused refusal.FormErr else (
     if not (class_before end octets == 1) || is_no_type (type_before end octets) then Refused refusal.Refused else (
-    if type_before end octets == 255 then Any else Asked))
+    if type_before end octets == 255 then Any else Asked)))
 
 abbrev pub verdict_of_extras : ℕ → List ℕ → Extras → Verdict
 verdict_of_extras end octets x =

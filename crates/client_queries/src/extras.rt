@@ -26,7 +26,7 @@ fn with_opt(octets: &[u8], place: &RecordPlace, extras: Extras) -> Option<Extras
     }
     Some(Extras {
         edns: Some(edns_at(place.fields, octets)),
-        is_signed: extras.is_signed,
+        is_signed: false,
     })
 }
 
@@ -56,12 +56,15 @@ fn with_record(octets: &[u8], place: &RecordPlace, extras: Extras) -> Option<Ext
     requires within { place.now.end ≤ length octets.now }
     ensures { result ≡ with_record octets.now place.now extras }
 {
+    if extras.is_signed {
+        return None;
+    }
     if number_at(octets, place.fields) == 41 {
         return with_opt(octets, place, extras);
     }
     Some(Extras {
         edns: extras.edns,
-        is_signed: extras.is_signed || signs(octets, place),
+        is_signed: signs(octets, place),
     })
 }
 

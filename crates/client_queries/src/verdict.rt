@@ -2,7 +2,7 @@
 ghost use Rattle.std.specs.Prelude.{◌≡◌, ◌≤◌, ◌-◌, length, take, drop, IfSome, nat_eq};
 ghost use Rattle.std.specs.Cmp.Lexicographic.{pointwise};
 ghost use Rattle.hickory_proto_core.specs.Name.{lower_label};
-ghost use Rattle.client_queries.specs.Queries.{type_before, class_before, question_in, is_transfer, is_no_type, is_statistics_name, asks_statistics, is_later, verdict_of_codes, verdict_of_extras, verdict_of_question, is_other_kind, verdict_of};
+ghost use Rattle.client_queries.specs.Queries.{type_before, class_before, question_in, is_transfer, is_no_type, is_nxname, is_statistics_name, asks_statistics, is_later, verdict_of_codes, verdict_of_extras, verdict_of_question, is_other_kind, verdict_of};
 
 use crate::places::{number_at, question_end};
 use crate::query::{ClientEdns, Extras, Refusal, Verdict};
@@ -46,7 +46,13 @@ fn is_transfer(code: u16) -> bool
 fn is_no_type(code: u16) -> bool
     ensures { result ≡ is_no_type code }
 {
-    code == 0 || code == 41 || code == 128 || (249 <= code && code <= 254)
+    code == 0 || code == 41 || (249 <= code && code <= 254)
+}
+
+fn is_nxname(code: u16) -> bool
+    ensures { result ≡ is_nxname code }
+{
+    code == 128
 }
 
 fn is_statistics_name(name: &[u8]) -> bool
@@ -92,6 +98,9 @@ fn verdict_of_codes(end: usize, octets: &[u8]) -> Verdict
         return Verdict::Statistics;
     }
     let code = type_before(end, octets);
+    if is_nxname(code) {
+        return Verdict::Refused(Refusal::FormErr);
+    }
     if class_before(end, octets) != 1 || is_no_type(code) {
         return Verdict::Refused(Refusal::Refused);
     }
