@@ -2,7 +2,7 @@
 use Rattle.std.specs.Prelude.{ℕ, ◌+◌, ◌-◌, ◌==◌, List, [], ◌∷◌, codes, length, Option, None, Some, if◌then◌else◌}
 use Rattle.std.specs.Option.{option_map_or}
 use Rattle.hickory_proto_core.specs.Codes.{type_code}
-use Rattle.hickory_proto_core.specs.Name.{NameValue}
+use Rattle.hickory_proto_core.specs.Name.{NameValue, is_zone_of}
 use Rattle.hickory_proto_core.specs.Records.{DataValue, RecordValue, a_data, aaaa_data, ns_data, soa_data}
 use Rattle.hickory_proto_core.specs.ResponseKind.{asks_for}
 use Rattle.hickory_proto_core.specs.codes.record_type.RecordType.TheVariants as type
@@ -38,6 +38,14 @@ start_of q zone seconds = record {
   rdata = soa_data zone nobody 1 3600 1200 604800 seconds;
 }
 
+abbrev pub resolver_zone : NameValue
+resolver_zone = full_name (codes "resolver" ∷ codes "arpa" ∷ [])
+
+-- How the other names of a zone are denied: they do not exist. Those below resolver.arpa. have no records, so that a
+-- client learns that no encrypted resolver is designated here (RFC 9462, section 4).
+abbrev pub code_below : NameValue → ResponseCode
+code_below name = if is_zone_of resolver_zone name then response.NoError else response.NXDomain
+
 -- The zone has its own name, with an SOA and an NS record, and no other names.
 abbrev pub served_reply : Query → ℕ → KeptValue
 served_reply q place =
@@ -47,7 +55,7 @@ served_reply q place =
     then (if asks_for type.SOA q then answer (start ∷ [])
     else (if asks_for type.NS q then answer (record_at q SERVED_SECONDS (ns_data zone) ∷ [])
     else denial response.NoError start))
-    else denial response.NXDomain start
+    else denial (code_below q.name) start
 
 abbrev pub blocked_denial : Query → ℕ → ResponseCode → KeptValue
 blocked_denial q place code = denial code (start_of q (zone_name q place) BLOCKED_SECONDS)

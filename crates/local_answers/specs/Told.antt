@@ -1,6 +1,6 @@
--- Replies that need no data.
-use Rattle.std.specs.Prelude.{ℕ, List, [], ◌∷◌, ◌++◌, codes, take}
-use Rattle.hickory_proto_core.specs.Records.{txt_data, unknown_data}
+-- The reply to a question for all types.
+use Rattle.std.specs.Prelude.{ℕ, List, [], ◌∷◌, ◌++◌, codes}
+use Rattle.hickory_proto_core.specs.Records.{unknown_data}
 use Rattle.hickory_proto_core.specs.declared.query.Query.{Query}
 use Rattle.whole_replies.specs.Kept.{KeptValue}
 use Rattle.local_answers.specs.Replies.{answer, record_at}
@@ -9,7 +9,3 @@ use Rattle.local_answers.specs.Replies.{answer, record_at}
 -- and its TTL is an hour (RFC 8482, section 4.2; RFC 1035, section 3.3.2).
 abbrev pub any_reply : Query → KeptValue
 any_reply q = answer (record_at q 3600 (unknown_data 13 (7 ∷ (codes "RFC8482" ++ 0 ∷ []))) ∷ [])
-
--- One TXT record of TTL 0 with one string, which has 255 octets at the most (RFC 1035, section 3.3).
-abbrev pub text_reply : Query → List ℕ → KeptValue
-text_reply q text = answer (record_at q 0 (txt_data (take 255 text ∷ [])) ∷ [])

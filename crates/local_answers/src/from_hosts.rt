@@ -1,5 +1,5 @@
 //! What the table of hosts has for a question.
-ghost use Rattle.std.specs.Prelude.{◌≡◌, ◌||◌, IfOk};
+ghost use Rattle.std.specs.Prelude.{◌≡◌, ◌||◌, [], IsOk, IfOk};
 ghost use Rattle.std.specs.Option.{is_some};
 ghost use Rattle.hickory_resolver_model.specs.Hosts.{HostsHave};
 ghost use Rattle.local_answers.specs.FromHosts.{IsFromHosts, as_type, chosen, told};
@@ -76,14 +76,15 @@ fn told(alloc: Global, found: Option<Lookup>, known: bool) -> Option<KeptReply>
 }
 
 /// What the hosts tell: a name that they have, or the name of an address that they have, is answered by them, whatever
-/// type is asked.
+/// type is asked. Where they have nobody it takes no memory.
 pub fn hosts_reply<S: BuildHasher>(
     alloc: Global,
     hosts: &Hosts<S>,
     query: &Query,
     now: u64,
 ) -> Result<Option<KeptReply>, AllocError>
-    ensures { IfOk result (IsFromHosts query.now now hosts.now) }
+    ensures found { IfOk result (IsFromHosts query.now now hosts.now) }
+    ensures nobody { hosts.now ≡ [] → IsOk result }
 {
     if hosts.is_empty() {
         return Ok(None);

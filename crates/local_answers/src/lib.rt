@@ -14,5 +14,5 @@ pub mod zones;
 
 pub use local_data::{Decision, LocalData};
 pub use rules::{Blocked, DomainRule};
-pub use told::{any_reply, text_reply};
+pub use told::any_reply;
 pub use zones::locally_served_zones;

@@ -1,5 +1,5 @@
 //! All that is known here, and what it decides.
-ghost use Rattle.std.specs.Prelude.{◌≡◌, [], IfOk, OnErr, OnOk};
+ghost use Rattle.std.specs.Prelude.{◌≡◌, ℕ, [], IsOk, IfOk, OnErr, OnOk};
 ghost use Rattle.local_answers.specs.Decisions.{IsDecided, decided_by, decided_here, is_of_zone_above};
 ghost use Rattle.local_answers.specs.Zones.{FirstServed, locally_served_zones, with_served};
 
@@ -51,7 +51,7 @@ impl<S: BuildHasher> LocalData<S> {
     /// What is done with a question of the class of the Internet at a moment (seconds). Its name is given as octets
     /// too, as they stand in the question. The hosts come first, then the special names, then the rule of the longest
     /// domain that is the name or above it; where there is none, group 0 is asked. The only error is to be out of
-    /// memory.
+    /// memory. Without hosts none is taken where a group is asked.
     pub fn decide(
         &self,
         alloc: Global,
@@ -59,7 +59,9 @@ impl<S: BuildHasher> LocalData<S> {
         question_name: &[u8],
         now: u64,
     ) -> Result<Decision, AllocError>
-        ensures { IfOk result (IsDecided self.now.hosts self.now.rules query.now question_name.now now) }
+        ensures decided { IfOk result (IsDecided self.now.hosts self.now.rules query.now question_name.now now) }
+        ensures asked { (group : ℕ) → self.now.hosts ≡ []
+            → decided_here self.now.rules query.now question_name.now ≡ Decision.Ask group → IsOk result }
     {
         match hosts_reply(alloc, &self.hosts, query, now) {
             Ok(Some(told)) => Ok(Decision::Answer(told)),
@@ -85,7 +87,9 @@ impl<S: BuildHasher> LocalData<S> {
         query: &Query,
         question_name: &[u8],
     ) -> Result<Decision, AllocError>
-        ensures { IfOk result (λ decision. decision ≡ decided_here self.now.rules query.now question_name.now) }
+        ensures decided { IfOk result (λ decision. decision ≡ decided_here self.now.rules query.now question_name.now) }
+        ensures asked { (group : ℕ) → decided_here self.now.rules query.now question_name.now ≡ Decision.Ask group
+            → IsOk result }
     {
         match special_reply(alloc, query) {
             Ok(Some(told)) => Ok(Decision::Answer(told)),
@@ -112,7 +116,8 @@ fn decide_by(
     place: usize,
     rule: DomainRule,
 ) -> Result<Decision, AllocError>
-    ensures { IfOk result (λ decision. decision ≡ decided_by query.now place rule) }
+    ensures decided { IfOk result (λ decision. decision ≡ decided_by query.now place rule) }
+    ensures asked { (group : ℕ) → decided_by query.now place rule ≡ Decision.Ask group → IsOk result }
 {
     match rule {
         DomainRule::Serve if is_of_zone_above(query, place) => Ok(Decision::Ask(0)),

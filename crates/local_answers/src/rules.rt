@@ -4,10 +4,11 @@ ghost use Rattle.std.specs.Option.{option_map};
 ghost use Rattle.hickory_proto_core.specs.Codes.{type_code};
 ghost use Rattle.hickory_proto_core.specs.Name.{label_bytes};
 ghost use Rattle.hickory_proto_core.specs.Records.{data_of};
-ghost use Rattle.local_answers.specs.Rules.{blocked_denial, blocked_reply, labels_from, null_address, nobody, served_reply, start_of, zone_name};
+ghost use Rattle.local_answers.specs.Rules.{blocked_denial, blocked_reply, code_below, labels_from, null_address, nobody, served_reply, start_of, zone_name};
 
 use crate::choices::{BLOCKED_SECONDS, SERVED_SECONDS};
 use crate::replies::{copy_of, denial, one_answer, record_reply};
+use crate::special::is_below;
 use hickory_proto_core::{Name, Query, RData, Record, RecordType, ResponseCode};
 use std::alloc::{AllocError, Global};
 use std::net::{Ipv4Addr, Ipv6Addr};
@@ -98,6 +99,19 @@ fn start_of(alloc: Global, query: &Query, zone: &Name, seconds: u32) -> Result<R
     })
 }
 
+static RESOLVER: [&[u8]; 2] = [b"resolver", b"arpa"];
+
+// How a name of a zone that is served here is denied, where it is not the zone's own.
+fn code_below(name: &Name) -> ResponseCode
+    ensures { result ≡ code_below name.now }
+{
+    if is_below(&RESOLVER, name) {
+        ResponseCode::NoError
+    } else {
+        ResponseCode::NXDomain
+    }
+}
+
 // The reply about a zone that is served here, which begins at a place of the name that is asked.
 pub fn served_reply(alloc: Global, query: &Query, place: usize) -> Result<KeptReply, AllocError>
     ensures { IfOk result (λ made. made ≡ served_reply query.now place) }
@@ -105,7 +119,7 @@ pub fn served_reply(alloc: Global, query: &Query, place: usize) -> Result<KeptRe
     let zone = zone_name(query, place)?;
     let start = start_of(alloc, query, &zone, SERVED_SECONDS)?;
     if place != 0 {
-        return denial(alloc, ResponseCode::NXDomain, start);
+        return denial(alloc, code_below(&query.name), start);
     }
     match query.query_type.code() {
         6 => one_answer(alloc, start),

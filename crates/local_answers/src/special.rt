@@ -1,5 +1,5 @@
 //! Names that are special, and what they have (RFC 6761, sections 6.3 and 6.4; RFC 7686, section 2).
-ghost use Rattle.std.specs.Prelude.{◌≡◌, nat_eq, map, IfOk};
+ghost use Rattle.std.specs.Prelude.{◌≡◌, None, nat_eq, map, IsOk, IfOk};
 ghost use Rattle.std.specs.List.{ends_with};
 ghost use Rattle.std.specs.Option.{option_map};
 ghost use Rattle.std.specs.Cmp.Lexicographic.{pointwise};
@@ -43,7 +43,7 @@ fn is_nonexistent_name(name: &Name) -> bool
 }
 
 // Whether the zone with these labels is a zone of the name.
-fn is_below(zone: &[&[u8]], name: &Name) -> bool
+pub(crate) fn is_below(zone: &[&[u8]], name: &Name) -> bool
     ensures { result ≡ is_zone_of (full_name (map (λ l. l.now) zone.now)) name.now }
 {
     ends_with(name.labels(), zone)
@@ -107,9 +107,10 @@ fn loopback_reply(alloc: Global, query: &Query) -> Result<KeptReply, AllocError>
     }
 }
 
-/// What is told of a special name, and none of any other.
+/// What is told of a special name, and none of any other, which takes no memory.
 pub fn special_reply(alloc: Global, query: &Query) -> Result<Option<KeptReply>, AllocError>
-    ensures { IfOk result (λ made. made ≡ special_reply query.now) }
+    ensures reply { IfOk result (λ made. made ≡ special_reply query.now) }
+    ensures none { special_reply query.now ≡ None → IsOk result }
 {
     if is_loopback_name(&query.name) {
         return Ok(Some(loopback_reply(alloc, query)?));

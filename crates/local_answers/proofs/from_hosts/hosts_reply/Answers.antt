@@ -6,8 +6,8 @@ use Rattle.local_answers.specs.FromHosts.{told}
 use Rattle.local_answers.proofs.HostsTold.{some_hosts}
 use Rattle.local_answers.proofs.from_hosts.hosts_reply.Goals as goal
 
-pub returns : goal.returns
-returns g c =
+pub returns-clause-found : goal.returns-clause-found
+returns-clause-found g c =
     let q = c.args.query.now in
     let v4 = c.in-Ok.found in
     let v6 = c.in-Ok-lookup.found in
