@@ -26,7 +26,8 @@ pub fn is_out_of_memory(attempt: &Result<Lookup, NetError>) -> bool
     matches!(attempt, Err(NetError::OutOfMemory))
 }
 
-/// What an attempt at a name comes to, by the result of its last type and that of the one before.
+/// What an attempt at a name comes to, by the result of its last type and that of the one before. Where `Types::second`
+/// tells of one more type after these, nothing is said of it.
 pub fn attempt_result(
     types: Types,
     first: Option<Result<Lookup, NetError>>,

@@ -1,5 +1,5 @@
 //! What a call looks up for each of its names.
-ghost use Rattle.std.specs.Prelude.{◌≡◌, ◌∷◌, [], Err, IfOk, IsOkUnless, None};
+ghost use Rattle.std.specs.Prelude.{◌≡◌, ◌∷◌, [], Err, IfOk, IsOk, IsOkUnless, None};
 ghost use Rattle.hickory_proto_core.specs.declared.net_error.NetError.TheVariants.{OutOfMemory};
 ghost use Rattle.hickory_resolver_model.specs.Calls.{Says, next_type};
 ghost use Rattle.hickory_resolver_attempts.specs.Sought.{asks_for_all, first_type, kept_name_for, no_names_of, order_of, order_value};
@@ -78,6 +78,7 @@ impl Types {
     pub fn kept_name(self, name: &Name) -> Result<Option<Name>, NetError>
         ensures ok { IfOk result (λ kept_name. kept_name ≡ kept_name_for (order_value self) None name.now) }
         ensures err { IsOkUnless result OutOfMemory }
+        ensures none { kept_name_for (order_value self) None name.now ≡ None → IsOk result }
     {
         match self {
             Types::One(_) => Ok(None),

@@ -1,5 +1,5 @@
 //! What a believed reply comes to.
-ghost use Rattle.std.specs.Prelude.{◌≡◌, ◌||◌, ◌&&◌, not, is_some, option_copied, Some, None, true, IfOk};
+ghost use Rattle.std.specs.Prelude.{◌≡◌, ◌||◌, ◌&&◌, not, is_some, option_copied, Some, None, true, IsOk, IfOk};
 ghost use Rattle.std.specs.List.{list_any};
 ghost use Rattle.hickory_proto_core.specs.ResponseKind.{is_asked, is_of_type, first_soa};
 ghost use Rattle.hickory_proto_wire.specs.Messages.{message_of};
@@ -60,6 +60,9 @@ pub fn read_reply(
     // What was believed has the question as it was asked, letter for letter.
     ensures asked { belief_of message.now form.now octets.now ≡ Belief.Believed
         → IfOk result (λ r. AsksAlone message.now.query r.message) }
+
+    // A cut one is not read on, which takes no memory.
+    ensures cut { is_truncated (head_of octets.now) ≡ true → IsOk result }
 {
     if is_truncated(octets) {
         return Ok(Reply {

@@ -1,5 +1,5 @@
 -- What is told was noted.
-use Rattle.std.proofs.Common.{◌≡◌, ℕ, ◌+◌, ◌≤◌, Bool, true, false, cond, not, List, [], ◌∷◌, ◌++◌, refl, sym, subst, arith}
+use Rattle.std.proofs.Common.{◌≡◌, ℕ, ◌+◌, ◌≤◌, Bool, true, false, cond, filter, not, List, [], ◌∷◌, ◌++◌, refl, sym, subst, arith}
 use Rattle.std.specs.Prelude.{Option, None, Some, find, nat_le, MatchBool}
 use Rattle.std.specs.Option.{option_map, option_and_then}
 use Rattle.std.specs.List.{AllByRecursion}
@@ -9,7 +9,7 @@ use Rattle.std.proofs.lemmas.Bool.{leb-true}
 use Rattle.second_chance_cache.specs.SecondChance.{Entry, first_round, has_room, if_current, is_current, is_for, is_kept, is_passed_by, make_room, second_round, told, unmarked, without}
 use Rattle.second_chance_cache.specs.declared.bounds.CacheBounds.{CacheBounds}
 use Rattle.kept_failures.specs.Failures.{FailuresValue, failure_behind, noted, reason_at, remembered_until, saturated, seconds_after, weight_of}
-use Rattle.kept_failures.specs.Laws.{FailureEvent, notes, forgets, clears, after_events, WasNoted, TellsWhatWasNoted}
+use Rattle.kept_failures.specs.Laws.{FailureEvent, notes, forgets, forgets_where, clears, after_events, WasNoted, TellsWhatWasNoted}
 use Rattle.kept_failures.specs.declared.choices.TheConstants.{MOST_SECONDS}
 use Rattle.kept_failures.specs.declared.failure.KeptFailure.{KeptFailure}
 
@@ -21,6 +21,10 @@ traced-on key other here later h more = subst (λ (b : Bool). MatchBool b here l
 traced-own : (key : List ℕ) (here later : Type 0) → here → MatchBool (bytes_eq key key) here later
 traced-own key here later more =
     subst (λ (b : Bool). MatchBool b here later) (sym ((bytes_decides key key).1 refl)) more
+
+none-or : (b : Bool) (P Q : Type 0) → (P → Q) → MatchBool b ⊥ P → MatchBool b ⊥ Q
+none-or true P Q step h = h
+none-or false P Q step h = step h
 
 abbrev Entries : Type 0 → Type 0
 Entries R = List (Entry (KeptFailure R))
@@ -107,6 +111,18 @@ module _ {R : Type 0} where
       by true h more = more
       by false h more = (step e.key e.value (other h (bytes_eq e.key key) refl) all.0, more)
 
+  -- without the keys that pass a test, the rest has others
+  all-left : (P Q : List ℕ → KeptFailure R → Type 0) (test : List ℕ → Bool)
+      → ((key : List ℕ) (f : KeptFailure R) → test key ≡ false → P key f → Q key f)
+      → (es : Entries R) → AllHold P es → AllHold Q (filter (λ e. not (test e.key)) es)
+  all-left P Q test step [] all = tt
+  all-left P Q test step (e ∷ es) all = by (test e.key) refl (all-left P Q test step es all.1)
+    where
+      by : (b : Bool) → test e.key ≡ b → AllHold Q (filter (λ e. not (test e.key)) es)
+          → AllHold Q (cond (not b) (e ∷ filter (λ e. not (test e.key)) es) (filter (λ e. not (test e.key)) es))
+      by true h more = more
+      by false h more = (step e.key e.value h all.0, more)
+
   -- ---- what was noted
 
   -- the reason and the last second of each were noted
@@ -166,6 +182,10 @@ module _ {R : Type 0} where
       all-without (IsTraced past) (IsTraced (forgets key ∷ past)) key
       (λ other f h more. traced-on key other ⊥ (WasNoted other f.reason f.until past) h more)
       (after_events bounds past).entries (traced bounds past)
+  traced bounds (forgets_where test ∷ past) =
+      all-left (IsTraced past) (IsTraced (forgets_where test ∷ past)) test
+      (λ key f h more. subst (λ (b : Bool). MatchBool b ⊥ (WasNoted key f.reason f.until past)) (sym h) more)
+      (after_events bounds past).entries (traced bounds past)
   traced bounds (clears ∷ past) = tt
 
   -- ---- what is told
@@ -182,12 +202,11 @@ module _ {R : Type 0} where
       by true more g = (g.0, omega (arith, g.1))
       by false more g = more g
   sooner (forgets other ∷ past) key reason now until le h =
-      by (bytes_eq key other) (sooner past key reason now until le) h
-    where
-      by : (b : Bool) → (WasNoted key reason until past → WasNoted key reason now past)
-          → MatchBool b ⊥ (WasNoted key reason until past) → MatchBool b ⊥ (WasNoted key reason now past)
-      by true more g = g
-      by false more g = more g
+      none-or (bytes_eq key other) (WasNoted key reason until past) (WasNoted key reason now past)
+      (sooner past key reason now until le) h
+  sooner (forgets_where test ∷ past) key reason now until le h =
+      none-or (test key) (WasNoted key reason until past) (WasNoted key reason now past)
+      (sooner past key reason now until le) h
   sooner (clears ∷ past) key reason now until le h = h
 
   told-noted : (past : List (FailureEvent R)) (es : Entries R) (key : List ℕ) (now : ℕ) (reason : R)

@@ -1,7 +1,7 @@
 //! A bounded cache of failures.
-ghost use Rattle.std.specs.Prelude.{◌≡◌, ◌+◌, ℕ, Bool, List, filter, length, not, OnOk, OnErr};
+ghost use Rattle.std.specs.Prelude.{◌≡◌, ◌+◌, ℕ, Bool, List, false, filter, length, not, IsOk, OnOk, OnErr};
 ghost use Rattle.std.specs.Fn.{FnReturnsAt};
-ghost use Rattle.second_chance_cache.specs.SecondChance.{IsCache, no_entries, without, told};
+ghost use Rattle.second_chance_cache.specs.SecondChance.{IsCache, is_kept, no_entries, without, told};
 ghost use Rattle.kept_failures.specs.Failures.{failure_at, noted, seconds_after, weight_of};
 
 use crate::choices::{FAILURE, FIRST_SECONDS};
@@ -60,10 +60,12 @@ impl<R: Drop, S: BuildHasher> FailureCache<R, S> {
         }
     }
 
-    /// Something failed at this second. The only error is to be out of memory. A refused call changes nothing.
+    /// Something failed at this second. The only error is to be out of memory. A refused call changes nothing. What is
+    /// not kept for its weight takes no memory.
     pub fn note(&mut self, key: &[u8], reason: R, now: u64) -> Result<(), AllocError>
         ensures ok { OnOk result (self.new ≡ noted key.now reason now self.old) }
         ensures err { OnErr result (self.new ≡ self.old) }
+        ensures not_kept { is_kept self.old.bounds (weight_of key.now) ≡ false → IsOk result }
     {
         let failure = KeptFailure::from(reason, self.seconds_for(key, now), now);
         let until = failure.remembered_until();

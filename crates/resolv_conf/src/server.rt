@@ -1,7 +1,8 @@
 //! The server of a line `nameserver`.
-ghost use Rattle.std.specs.Prelude.{◌≡◌, ℕ, List, IfOk, option_map};
+ghost use Rattle.std.specs.Prelude.{◌≡◌, ℕ, List, None, IsOk, IfOk, option_map};
 ghost use Rattle.resolv_conf.specs.AddressDecided.{address_of};
 ghost use Rattle.resolv_conf.specs.Servers.{is_link_local, kept_scope, plain_server, scoped_server, server_of};
+ghost use Rattle.resolv_conf.specs.Text.{cut};
 
 use crate::text::cut_at;
 use std::alloc::{AllocError, Global};
@@ -41,9 +42,10 @@ pub struct Server {
     pub scope: Option<Scope>,
 }
 
-/// The server that a word is: an address, and behind `%` the scope of an IPv6 address.
+/// The server that a word is: an address, and behind `%` the scope of an IPv6 address. Only a scope takes memory.
 pub fn read_server(alloc: Global, word: &[u8]) -> Result<Option<Server>, AllocError>
-    ensures { IfOk result (λ server. server ≡ server_of word.now) }
+    ensures server { IfOk result (λ server. server ≡ server_of word.now) }
+    ensures plain { cut 37 word.now ≡ None → IsOk result }
 {
     match cut_at(b'%', word) {
         Some((text, scope)) => scoped_server(alloc, text, scope),

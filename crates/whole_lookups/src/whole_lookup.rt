@@ -1,5 +1,5 @@
 //! One look-up of a whole reply.
-ghost use Rattle.std.specs.Prelude.{◌≡◌, IfOk, OnOk, OnErr, if◌then◌else◌};
+ghost use Rattle.std.specs.Prelude.{◌≡◌, None, IsOk, IfOk, OnOk, OnErr, if◌then◌else◌};
 ghost use Rattle.whole_lookups.specs.Lookups.{begun, whole_with, taken, may_go_on, gone_on, outcome_of, after_of, heard, after};
 
 use crate::choices::MOST_QUESTIONS;
@@ -110,11 +110,12 @@ impl WholeLookup {
     }
 
     /// What is asked now is answered with this, without a reply, as of a name that is known here: the whole reply, and
-    /// what was kept is handed out with it. A refused call changes nothing.
+    /// what was kept is handed out with it. A refused call changes nothing, and is out of memory to put both together.
     pub fn hear_local(&mut self, last: KeptReply) -> Result<KeptReply, AllocError>
         ensures whole { IfOk result (λ whole. whole ≡ whole_with last self.old) }
         ensures ok { OnOk result (self.new ≡ taken self.old) }
         ensures err { OnErr result (self.new ≡ self.old) }
+        ensures alone { self.old.kept ≡ None → IsOk result }
     {
         match self.kept.take() {
             None => Ok(last),
