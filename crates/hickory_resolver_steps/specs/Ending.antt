@@ -1,6 +1,6 @@
--- Tries that nothing waits for any more, and rounds.
+-- Tries that nothing waits for any more.
 use Rattle.std.specs.Prelude.{ℕ, Bool, remove, position, slice_get, Option}
-use Rattle.std.specs.Option.{is_none, option_map_or, option_and_then}
+use Rattle.std.specs.Option.{is_none}
 use Rattle.hickory_resolver_channels.specs.Channels.{ChannelsState, left, closes}
 use Rattle.hickory_resolver_transactions.specs.Transaction.{TransactionState, try_at}
 use Rattle.hickory_resolver_steps.specs.Steps.{FlyingState}
@@ -21,14 +21,8 @@ ended_of channels one = record { channel = one.channel; is_closed = closes one.c
 abbrev pub try_at_place : FlyingState → ℕ → Option SentTry
 try_at_place f place = slice_get f.tries place
 
-abbrev pub to_end : FlyingState → Option SentTry
-to_end f = option_and_then (try_at_place f) (first_done f)
-
 abbrev pub channels_without : ℕ → ChannelsState → SentTry → ChannelsState
 channels_without until channels one = left one.channel one.id until channels
 
 abbrev pub without_first : FlyingState → ℕ → FlyingState
 without_first f place = record { flight = f.flight; tries = remove f.tries place }
-
-abbrev pub without_done : FlyingState → FlyingState
-without_done f = option_map_or (λ one. option_map_or (without_first f) (first_done f) f) (to_end f) f

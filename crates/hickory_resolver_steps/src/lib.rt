@@ -8,7 +8,7 @@ pub mod list;
 pub mod sending;
 pub mod telling;
 
-pub use ending::{Ended, end_one};
+pub use ending::Ended;
 pub use flying::{Flying, Sending, SentTry, Shared, Step};
 pub use list::ServerList;
 pub use sending::send;

@@ -297,11 +297,6 @@ try_at channel id s =
     option_or (option_and_then (λ c. try_in c.progress) (picked (waits_as channel id) s))
     (option_map (λ l. l.tried) (late_at channel id s))
 
--- something waits on this channel, or is believed there
-abbrev pub uses : ℕ → TransactionState → Bool
-uses channel s =
-    list_any (λ c. waits_on channel c.progress) s.candidates || list_any (λ l. l.tried.channel == channel) s.late
-
 -- the try of which `expired` says that its time has passed, if it is one that waits
 abbrev pub due_try : ℕ → TransactionState → Option Try
 due_try now s = option_and_then (λ c. try_in c.progress) (picked (is_due now) s)

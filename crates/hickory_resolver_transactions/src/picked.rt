@@ -160,12 +160,6 @@ pub(crate) fn any_tried(candidates: &[Candidate]) -> bool
     candidates.iter().any(|one| one.progress.is_tried())
 }
 
-pub(crate) fn any_waits_on(candidates: &[Candidate], channel: u64) -> bool
-    ensures { result ≡ list_any (λ c. waits_on channel c.progress) candidates.now }
-{
-    candidates.iter().any(|one| one.progress.waits_on(channel))
-}
-
 pub(crate) fn waiting_try(candidates: &[Candidate], channel: u64, id: u16) -> Option<Try>
     ensures { result ≡ option_and_then (λ c. try_in c.progress)
         (find (λ c. waits_as channel id c.progress) candidates.now) }
@@ -212,12 +206,6 @@ pub(crate) fn any_failed_by(late: &[LateTry], now: u64) -> bool
     ensures { result ≡ list_any (has_failed_by now) late.now }
 {
     late.iter().any(|one| one.has_failed_by(now))
-}
-
-pub(crate) fn any_late_on(late: &[LateTry], channel: u64) -> bool
-    ensures { result ≡ list_any (λ l. l.tried.channel == channel) late.now }
-{
-    late.iter().any(|one| one.tried.channel == channel)
 }
 
 pub(crate) fn not_sent_as(

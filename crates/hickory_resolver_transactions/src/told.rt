@@ -1,14 +1,12 @@
 //! What a transaction tells: its outcome, up to when it waits, and its tries.
 ghost use Rattle.std.specs.Prelude.{◌≡◌, ◌&&◌, not, None};
 ghost use Rattle.std.specs.Option.{option_and_then};
-ghost use Rattle.hickory_resolver_transactions.specs.Transaction.{is_idle, may_go_on, told, outcome_of, next_deadline, try_at, due_try, failed_try, uses, reply_of, named};
+ghost use Rattle.hickory_resolver_transactions.specs.Transaction.{is_idle, may_go_on, told, outcome_of, next_deadline, try_at, due_try, failed_try, reply_of, named};
 
 use crate::candidate::Try;
 use crate::deadlines::{earliest, earliest_late};
 use crate::outcome::Outcome;
-use crate::picked::{
-    any_late_on, any_waits_on, first_due, late_try, try_in, waiting_on, waiting_try,
-};
+use crate::picked::{first_due, late_try, try_in, waiting_on, waiting_try};
 use crate::table::failed_try;
 use crate::transaction::Transaction;
 
@@ -60,13 +58,6 @@ impl Transaction {
             Some(tried) => Some(tried),
             None => late_try(&self.late, channel, id),
         }
-    }
-
-    /// Whether something waits on this channel, or is believed there.
-    pub fn uses(&self, channel: u64) -> bool
-        ensures { result ≡ uses channel self.now }
-    {
-        any_waits_on(&self.candidates, channel) || any_late_on(&self.late, channel)
     }
 
     /// The try of which `expired` says that its time has passed, if it is one that waits.

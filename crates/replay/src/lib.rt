@@ -10,4 +10,4 @@ pub use error::ReplayError;
 pub use hickory_resolver::Watched;
 pub use replay_script::{Request, Script, ScriptError, ScriptFault, read_script};
 pub use run::{replay_text, replay_text_with_hashers};
-pub use writing::{replay, replay_with_hasher, replay_with_hashers};
+pub use writing::{replay, replay_with_hashers};

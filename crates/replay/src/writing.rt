@@ -36,32 +36,8 @@ pub fn replay<W: Write>(
     )
 }
 
-/// As `replay`; names of questions in the cache are hashed by one hasher, and those of the hosts by the other.
-pub fn replay_with_hasher<W: Write, S: BuildHasher + Drop>(
-    alloc: Global,
-    script: &[u8],
-    hosts: Option<&[u8]>,
-    writer: &mut Watched<W>,
-    cache_hasher: S,
-    hosts_hasher: S,
-) -> Result<(), ReplayError>
-    requires { writer.old.failed ≡ false }
-    ensures { IsReplay script.now (given_hosts hosts.entry) (W.contents writer.old.inner)
-        (W.contents writer.new.inner) result writer.new.failed }
-{
-    let table_hasher: BuildHasherDefault<FoldHasher> = BuildHasherDefault::new();
-    replay_with_hashers(
-        alloc,
-        script,
-        hosts,
-        writer,
-        cache_hasher,
-        hosts_hasher,
-        table_hasher,
-    )
-}
-
-/// As `replay_with_hasher`; where the script's outcomes are a table, its questions are hashed by the third hasher.
+/// As `replay`; names of questions in the cache are hashed by the first hasher, those of the hosts by the second, and the
+/// questions of a script whose outcomes are a table by the third.
 pub fn replay_with_hashers<W: Write, S: BuildHasher + Drop, T: BuildHasher + Drop>(
     alloc: Global,
     script: &[u8],
