@@ -7,8 +7,8 @@ use crate::state::State;
 use std::alloc::{AllocError, Global};
 use std::marker::Model;
 
-/// A conversation with a resolver: what is set before the first request; then the resolver, and the requests in
-/// flight, each under its mark. Nothing else is kept.
+/// A conversation with a resolver: how many lines were heard, and what is set before the first request; then the
+/// resolver, and the requests in flight, each under its mark. Nothing else is kept.
 #[derive(Drop)]
 pub struct Conversation {
     state: State,

@@ -23,8 +23,8 @@ use std::alloc::AllocError;
 use std::hash::{BuildHasher, BuildHasherDefault, FoldHasher};
 
 /// Serves requests in order by a new resolver with this configuration, these options and this table of hosts, over
-/// this handle. Each request has a step: its moment, how many questions were sent for it, and
-/// what it is answered. A request that finds no memory is answered so, and is the last that is served.
+/// this handle. Each request that is served has a step: its moment, how many questions were sent for it, and what it is
+/// answered. A request that finds no memory is answered so, and is the last that is served.
 /// Options whose bounds on times to live are reversed are refused, before any memory is taken; where there
 /// is none for the steps the run is refused as out of memory. A run that is refused has asked nothing, though no
 /// clause says so, since the handle is gone: its bounds are looked at, and room for its steps is taken, by functions that

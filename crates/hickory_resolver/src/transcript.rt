@@ -55,7 +55,7 @@ impl Model for Step {
 }
 
 /// What a run came to: a step for each request that was served, in order, and the resolver after the last one.
-/// Call `into_resolver`, and drop what it gives: the prover has no rule yet for a drop of the whole.
+/// To let go of it call `into_resolver`, and drop what that gives: a program that drops the whole is not proved.
 #[derive(Drop)]
 pub struct Transcript<H: DnsHandle, S: BuildHasher = BuildHasherDefault<FoldHasher>> {
     steps: Vec<Step>,
