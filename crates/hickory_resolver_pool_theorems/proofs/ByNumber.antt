@@ -22,7 +22,7 @@ ltb-suc a b = by (ltb (suc a) (suc b)) (ltb a b) refl refl
     by true false is other = absurd (omega (arith, ltb-true (suc a) (suc b) is, ltb-false a b other))
     by false true is other = absurd (omega (arith, ltb-false (suc a) (suc b) is, ltb-true a b other))
 
-without-cons : (k x : ℕ) (xs : List ℕ) → without k (x ∷ xs) ≡ cond (eqb x k) xs (x ∷ without k xs)
+pub without-cons : (k x : ℕ) (xs : List ℕ) → without k (x ∷ xs) ≡ cond (eqb x k) xs (x ∷ without k xs)
 without-cons k x xs = by (eqb x k)
   where
     behind : ℕ

@@ -1,4 +1,5 @@
 pub mod Alive
+pub mod AllTold
 pub mod Always
 pub mod Answers
 pub mod Asked
@@ -35,6 +36,7 @@ pub mod Keys
 pub mod Later
 pub mod Left
 pub mod Lex
+pub mod ListCounts
 pub mod Listed
 pub mod Lists
 pub mod ListsKept
@@ -71,6 +73,7 @@ pub mod Traces
 pub mod Tracks
 pub mod Tries
 pub mod Unanswered
+pub mod Unasked
 pub mod Weights
 pub mod Whole
 pub mod Wires

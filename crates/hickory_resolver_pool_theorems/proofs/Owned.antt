@@ -50,7 +50,7 @@ owned-of s ds es c dates_are entries current w =
     (subst (λ (x : Option CurrentState). AreOwned ds es x) (sym current) w))
 
 -- it is there still, with another put in
-there-inserted : (n m : ℕ) (e : EntryState) (es : List (ℕ × EntryState)) → is_some (lookup (is_at (nat_cmp n)) es) ≡ true
+pub there-inserted : (n m : ℕ) (e : EntryState) (es : List (ℕ × EntryState)) → is_some (lookup (is_at (nat_cmp n)) es) ≡ true
     → is_some (lookup (is_at (nat_cmp n)) (insert_entry nat_cmp es m e)) ≡ true
 there-inserted n m e es h = by (is_at (nat_cmp n) m) refl
   where
@@ -60,16 +60,16 @@ there-inserted n m e es h = by (is_at (nat_cmp n) m) refl
         ∙ ap (λ (o : Option EntryState). is_some o) (found-inserted nat_cmp nat-self m e es)
     by false is = ap (λ (o : Option EntryState). is_some o) (others-inserted n m is e es) ∙ h
 
-own-inserted : (n m : ℕ) (e : EntryState) (es : List (ℕ × EntryState)) → m ≡ n
+pub own-inserted : (n m : ℕ) (e : EntryState) (es : List (ℕ × EntryState)) → m ≡ n
     → is_some (lookup (is_at (nat_cmp n)) (insert_entry nat_cmp es m e)) ≡ true
 own-inserted n m e es same =
     ap (λ (k : ℕ). is_some (lookup (is_at (nat_cmp k)) (insert_entry nat_cmp es m e))) (sym same)
     ∙ ap (λ (o : Option EntryState). is_some o) (found-inserted nat_cmp nat-self m e es)
 
 -- one is taken up
-owned-taken : (ds : List (ℕ × ℕ)) (t u : TableState) (c : Option CurrentState) → AreOwned ds t.entries None → Takes t u c
-    → AreOwned ds u.entries c
-owned-taken ds t u c w takes due n h = by takes (w due n h)
+pub there-taken : (n : ℕ) (t u : TableState) (c : Option CurrentState) → Takes t u c → IsThere t.entries None n
+    → IsThere u.entries c n
+there-taken n t u c = by
   where
     gone : (m : ℕ) → is_some (lookup (is_at (nat_cmp n)) t.entries) ≡ true → u.entries ≡ remove_entry (is_at (nat_cmp m)) t.entries
         → is_at (nat_cmp n) m ≡ false → IsThere u.entries c n
@@ -97,6 +97,10 @@ owned-taken ds t u c w takes due n h = by takes (w due n h)
         number m (IsThere u.entries c n)
         (λ same. is_worked (record { number = m; to_do = to_do; entry = e }) now (sym same))
         (λ apart. gone m there table apart)
+
+owned-taken : (ds : List (ℕ × ℕ)) (t u : TableState) (c : Option CurrentState) → AreOwned ds t.entries None → Takes t u c
+    → AreOwned ds u.entries c
+owned-taken ds t u c w takes due n h = there-taken n t u c takes (w due n h)
 
 put-deadlines : (what : Doing) (c : CurrentState) (s : PoolState)
     → (put_by what c s).traffic.table.deadlines ≡ s.traffic.table.deadlines

@@ -1,4 +1,5 @@
 pub mod Agreement
+pub mod AllTold
 pub mod Answers
 pub mod Causes
 pub mod Ends

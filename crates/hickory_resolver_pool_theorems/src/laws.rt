@@ -1,5 +1,6 @@
 //! What holds of a pool after every list of events and steps.
 ghost use Rattle.hickory_resolver_pool_theorems.specs.Agreement.{EachTransactionStandsOnce, DeadlinesAgree, TriesAgree, ServersAreKept};
+ghost use Rattle.hickory_resolver_pool_theorems.specs.AllTold.{NoAskerIsLost, EachAskerIsTold};
 ghost use Rattle.hickory_resolver_pool_theorems.specs.Runs.{ReachedIsWhatHappens};
 ghost use Rattle.hickory_resolver_pool_theorems.specs.MadeUp.{NothingIsMadeUp};
 ghost use Rattle.hickory_resolver_pool_theorems.specs.Handles.{CoreIsToldWhatCame, FromOctetsToOctets};
@@ -162,4 +163,16 @@ pub fn each_comes_to_rest()
 /// done, no transaction is left after finitely many steps and ticks.
 pub fn each_comes_to_end()
     ensures { EachComesToEnd }
+{}
+
+/// Nobody who asks is lost: who was given an asker, and did not forget it, was told that its transaction is over; or
+/// the transaction is there still, also where it waits for a place.
+pub fn no_asker_is_lost()
+    ensures { NoAskerIsLost }
+{}
+
+/// Each who asks is told: where steps are all that happens, and a tick at the next deadline, or later, wherever nothing
+/// is left to be done, all who were given an asker, and did not forget it, were told after finitely many of them.
+pub fn each_asker_is_told()
+    ensures { EachAskerIsTold }
 {}
