@@ -1,8 +1,9 @@
 -- What is kept by each event and each step of a session: its pool is one that was reached, what is being told was said
 -- by it, what was asked ahead of a look-up and told is from it, and what happened to the resolver is told as events of
--- calls.
+-- calls. Each look-up is as the call under its number, which waits since its start; and what is asked ahead of it is of
+-- the second family.
 use Rattle.std.proofs.Common.{◌≡◌, ◌∙◌, ℕ, Bool, true, false, cond, List, [], ◌∷◌, ◌++◌, map, nat_eq, refl, sym, ap, subst, ◌⊎◌, inl, inr, arith}
-use Rattle.std.specs.Prelude.{Option, None, Some}
+use Rattle.std.specs.Prelude.{Ok, Option, None, Some}
 use Rattle.std.specs.List.{AllByRecursion}
 use Rattle.std.specs.Option.{option_and_then, option_map}
 use Rattle.std.proofs.lemmas.Bool.Decides.{nat_tests}
@@ -19,7 +20,7 @@ use Rattle.hickory_resolver_model.specs.Options.{request_options_of}
 use Rattle.hickory_resolver_model.specs.Resolver.{ResolverValue, settings}
 use Rattle.hickory_resolver_model.specs.Lookup.{LookupResult}
 use Rattle.hickory_resolver_model.specs.Resuming.{IsDone}
-use Rattle.hickory_resolver_model.specs.Run.{Settings}
+use Rattle.hickory_resolver_model.specs.Run.{Settings, name_call}
 use Rattle.hickory_resolver_pool.specs.Laws.{PoolEvent, after_event}
 use Rattle.hickory_resolver_pool.specs.Over.{OverValue}
 use Rattle.hickory_resolver_pool.specs.Pool.{PoolState, Steps, no_servers}
@@ -43,8 +44,13 @@ use Rattle.yimarotu_session.specs.declared.ahead.Ahead.TheVariants.{Nothing, Tol
 use Rattle.yimarotu_session.specs.declared.ahead.SecondQuestion.{SecondQuestion}
 use Rattle.yimarotu_session.specs.declared.network_lookup.NetworkLookup.{NetworkLookup}
 use Rattle.yimarotu_session.specs.declared.network_lookup.NetworkLookup.TheVariants.{Asks, Asked, Done}
+use Rattle.yimarotu_session_theorems.specs.NetworkCalls.{AreTold, Calls, EventTells, IsOfSecond, no_calls}
+use Rattle.yimarotu_session_theorems.specs.NetworkCalls as told_calls
 use Rattle.yimarotu_session_theorems.specs.NetworkLaws.{AreOfCalls, ComesTo, IsFedFrom, IsFromPool, SomeComesTo, question_with}
-use Rattle.yimarotu_session_theorems.proofs.Moves.{AreFlying, Flights, Moves, Puts, over, waiting_in, world}
+use Rattle.yimarotu_session_theorems.specs.NetworkRuns.{NetworkEvent}
+use Rattle.yimarotu_session_theorems.specs.NetworkRuns as network
+use Rattle.yimarotu_session_theorems.proofs.Calls.{AreAs, AreSinceStart, IsLater, Lookups, second-later, waits_by}
+use Rattle.yimarotu_session_theorems.proofs.Moves.{AreFlying, Flights, Moves, over, world}
 
 -- ---- the calls of look-ups
 
@@ -56,29 +62,6 @@ call_of (Done found announced) = None
 
 abbrev pub call_at : List (ℕ × NetworkLookup) → ℕ → Option WaitingCallValue
 call_at lookups n = option_and_then call_of (value_at n lookups)
-
-pub call-of-lookup : (p : CallProgress) → call_of (lookup_of p) ≡ waiting_in (progress_of p)
-call-of-lookup (progress.Waiting w) = refl
-call-of-lookup (progress.Done found) = refl
-
-pub puts-calls : (n : ℕ) (held : Option NetworkLookup) (before after : List (ℕ × NetworkLookup))
-    → PutsUnder n held before after → Puts n (option_and_then call_of held) (call_at before) (call_at after)
-puts-calls n held before after puts m =
-    ap (λ (h : Option NetworkLookup). option_and_then call_of h) (puts m) ∙ by (nat_eq n m)
-  where
-    by : (b : Bool) → option_and_then call_of (cond b held (value_at m before))
-        ≡ cond b (option_and_then call_of held) (option_and_then call_of (value_at m before))
-    by true = refl
-    by false = refl
-
--- where the same call waits under a number as before, all wait as before
-pub alike : (n : ℕ) (x : Option WaitingCallValue) (waiting later : ℕ → Option WaitingCallValue) → waiting n ≡ x
-    → Puts n x waiting later → (m : ℕ) → later m ≡ waiting m
-alike n x waiting later there puts m = puts m ∙ by (nat_eq n m) refl
-  where
-    by : (b : Bool) → nat_eq n m ≡ b → cond b x (waiting m) ≡ waiting m
-    by true e = let same : n ≡ m = grind (arith, nat_tests) in sym there ∙ ap waiting same
-    by false e = refl
 
 -- ---- lists
 
@@ -133,9 +116,6 @@ module _ (first : PoolState) (more past : List Happening) where
       all-weaker (IsFedFrom first options past) (IsFedFrom first options (more ++ past)) told (fed-grows options) all
 
 -- ---- look-ups whose question is asked, and what is asked ahead of them
-
-abbrev pub Lookups : Type 0
-Lookups = List (ℕ × NetworkLookup)
 
 abbrev pub Places : Type 0
 Places = List (ℕ × Ahead)
@@ -346,17 +326,31 @@ module _ (resolver : ResolverValue (List OutcomeValue)) (limits : PoolLimits) (s
   IsTelling past table None = Unit {0}
   IsTelling past table (Some t) = IsToldOf past table t.over
 
-  -- with the octets that came
-  pub record Kept (brought : List PoolEvent) (s : NetworkValue) : Type 0 where
+  -- each question that is asked ahead is of the second family of its look-up
+  abbrev pub IsSecond : SecondQuestion → List CallEventValue → Type 0
+  IsSecond q events =
+      IsOfSecond (settings resolver) events (name_call q.query.query_type (Ok q.query.name)) q.started
+
+  abbrev pub AreSecond : Calls → Places → Type 0
+  AreSecond calls places =
+      (n : ℕ) (q : SecondQuestion) (a : Asker) → value_at n places ≡ Some (Waits q a) → IsSecond q (calls n)
+
+  -- after these events
+  pub record Kept (events : List NetworkEvent) (s : NetworkValue) : Type 0 where
     pub past : List Happening
     pub runs : Runs first past s.pool
-    pub came : octets_in past ≡ brought
+    pub came : octets_in past ≡ network.octets_in events
     pub told : List CallEventValue
+    pub calls : Calls
+    pub tells : AreTold (settings resolver) events told calls
+    pub since : AreSinceStart calls
+    pub as_calls : AreAs calls s.table.lookups
+    pub second : AreSecond calls s.table.ahead
     pub flights : Flights
     pub happen : CallsHappen (settings resolver) (call_world_of resolver.client.cache resolver.hosts) told
         (world resolver s.resolver.client.cache flights)
     pub after_is : s.resolver ≡ over resolver s.resolver.client.cache
-    pub flying : AreFlying flights (call_at s.table.lookups)
+    pub flying : AreFlying flights (waits_by calls)
     pub fed : AllByRecursion (IsFedFrom first options past) told
     pub asked : AreAskedFor s.pool s.table.lookups
     pub ahead : AreAhead past s.pool s.table.ahead
@@ -369,6 +363,11 @@ module _ (resolver : ResolverValue (List OutcomeValue)) (limits : PoolLimits) (s
     runs = runs.at_first;
     came = refl;
     told = [];
+    calls = no_calls;
+    tells = told_calls.at_first;
+    since = λ n c there. let clash : None ≡ Some c = there in absurd cc;
+    as_calls = λ n. refl;
+    second = λ n q a there. let clash : None ≡ Some (Waits q a) = there in absurd cc;
     flights = [];
     happen = refl;
     after_is = refl;
@@ -405,7 +404,7 @@ module _ (resolver : ResolverValue (List OutcomeValue)) (limits : PoolLimits) (s
   telling-grows past more before after None less h = tt
   telling-grows past more before after (Some t) less h = told-grows past more before after t.over less h
 
-  module _ (brought : List PoolEvent) (s : NetworkValue) (k : Kept brought s) (after : NetworkValue) where
+  module _ (events : List NetworkEvent) (s : NetworkValue) (k : Kept events s) (after : NetworkValue) where
     abbrev pub pool-stays : after.pool ≡ s.pool → PoolMoves [] k.past s.pool after.pool
     pool-stays same = record {
       later = [];
@@ -483,32 +482,56 @@ module _ (resolver : ResolverValue (List OutcomeValue)) (limits : PoolLimits) (s
         by (inl old) = ahead-grows p x (k.ahead n x old)
         by (inr h) = settled x h
 
-    -- what was done to the resolver
-    pub record Done-to (past : List Happening) : Type 0 where
+    -- what an event did to the resolver, and what is told of it
+    pub record Done-to (e : NetworkEvent) (past : List Happening) : Type 0 where
       pub told : List CallEventValue
-      pub moves : Moves resolver told s.resolver.client.cache k.flights after.resolver (call_at after.table.lookups)
+      pub calls : Calls
+      pub tells : EventTells (settings resolver) e k.calls told calls
+      pub moves : Moves resolver told s.resolver.client.cache k.flights after.resolver (waits_by calls)
+      pub since : AreSinceStart calls
+      pub as_calls : AreAs calls after.table.lookups
+      pub later : (n : ℕ) (q : SecondQuestion) (a : Asker) → value_at n after.table.ahead ≡ Some (Waits q a)
+          → IsLater (calls n) (k.calls n)
       pub fed : AllByRecursion (IsFedFrom first options past) told
       pub ends : EndsLess told s.table.lookups after.table.lookups
 
     -- what is done is what a call came to, before or now
-    done-on : (past : List Happening) (d : Done-to past) → AreOfCalls (k.told ++ d.told) after.table
-    done-on past d n found b there = by (d.ends n found b there)
+    done-on : (e : NetworkEvent) (past : List Happening) (d : Done-to e past) → AreOfCalls (k.told ++ d.told) after.table
+    done-on e past d n found b there = by (d.ends n found b there)
       where
         by : EndsBefore d.told s.table.lookups n found → SomeComesTo found (k.told ++ d.told)
         by (inl (c, old)) = comes-before found k.told d.told (k.done n found c old)
         by (inr s) = comes-behind found k.told d.told s
 
-    pub keeps : {octets : List PoolEvent} (p : PoolMoves octets k.past s.pool after.pool) → Done-to (p.later ++ k.past)
-        → AreAskedFor after.pool after.table.lookups → AreAhead (p.later ++ k.past) after.pool after.table.ahead
-        → IsTelling (p.later ++ k.past) after.table after.telling → Kept (octets ++ brought) after
-    keeps {octets} p d asked ahead telling =
+    -- what is asked ahead still was so before
+    pub second-on : (e : NetworkEvent) (past : List Happening) (d : Done-to e past)
+        → PlacesLess past s.table.ahead after.table.ahead → AreSecond d.calls after.table.ahead
+    second-on e past d less n q a there = by (less n (Waits q a) there)
+      where
+        by : (value_at n s.table.ahead ≡ Some (Waits q a)) ⊎ ⊥ → IsSecond q (d.calls n)
+        by (inl old) =
+            second-later (settings resolver) (k.calls n) (d.calls n) (name_call q.query.query_type (Ok q.query.name)) q.started
+            (d.later n q a there) (k.second n q a old)
+        by (inr never) = absurd never
+
+    pub keeps : (e : NetworkEvent) {octets : List PoolEvent} (p : PoolMoves octets k.past s.pool after.pool)
+        → network.octets_of e ≡ octets → (d : Done-to e (p.later ++ k.past)) → AreAskedFor after.pool after.table.lookups
+        → AreAhead (p.later ++ k.past) after.pool after.table.ahead → AreSecond d.calls after.table.ahead
+        → IsTelling (p.later ++ k.past) after.table after.telling → Kept (e ∷ events) after
+    keeps e {octets} p brings d asked ahead second telling =
         let past = p.later ++ k.past in
         let cache = s.resolver.client.cache in
         record {
           past = past;
           runs = p.runs;
-          came = p.come ∙ ap (λ (l : List PoolEvent). octets ++ l) k.came;
+          came = p.come ∙ ap (λ (l : List PoolEvent). octets ++ l) k.came
+              ∙ ap (λ (l : List PoolEvent). l ++ network.octets_in events) (sym brings);
           told = k.told ++ d.told;
+          calls = d.calls;
+          tells = told_calls.next events e k.told d.told k.calls d.calls d.tells k.tells;
+          since = d.since;
+          as_calls = d.as_calls;
+          second = second;
           flights = d.moves.left;
           happen = happen-append (settings resolver) k.told d.told (call_world_of resolver.client.cache resolver.hosts)
               (world resolver cache k.flights) (world resolver after.resolver.client.cache d.moves.left) k.happen d.moves.happen;
@@ -519,11 +542,13 @@ module _ (resolver : ResolverValue (List OutcomeValue)) (limits : PoolLimits) (s
           asked = asked;
           ahead = ahead;
           telling = telling;
-          done = done-on past d;
+          done = done-on e past d;
         }
 
     -- where no look-up is asked anew, and somebody is told as before
-    pub keeps-telling : {octets : List PoolEvent} (p : PoolMoves octets k.past s.pool after.pool) → Done-to (p.later ++ k.past)
-        → AsksLess (p.later ++ k.past) s.table after.table → after.telling ≡ s.telling → Kept (octets ++ brought) after
-    keeps-telling p d less same =
-        keeps p d (asked-on p less.lookups) (ahead-on p less.places) (tells-on p.later same less)
+    pub keeps-telling : (e : NetworkEvent) {octets : List PoolEvent} (p : PoolMoves octets k.past s.pool after.pool)
+        → network.octets_of e ≡ octets → Done-to e (p.later ++ k.past) → AsksLess (p.later ++ k.past) s.table after.table
+        → after.telling ≡ s.telling → Kept (e ∷ events) after
+    keeps-telling e p brings d less same =
+        keeps e p brings d (asked-on p less.lookups) (ahead-on p less.places)
+        (second-on e (p.later ++ k.past) d less.places) (tells-on p.later same less)

@@ -1,5 +1,6 @@
 pub mod AskedAhead
 pub mod Asking
+pub mod Calls
 pub mod Changes
 pub mod Flights
 pub mod Going
@@ -7,3 +8,4 @@ pub mod Kept
 pub mod LeftAhead
 pub mod Moves
 pub mod Played
+pub mod SecondFamily

@@ -1,5 +1,5 @@
 -- What is done to a resolver, with calls that wait under numbers, is an event of calls that happens.
-use Rattle.std.proofs.Common.{◌≡◌, ◌∙◌, ℕ, Bool, true, false, cond, List, [], ◌∷◌, ◌++◌, nat_eq, refl, sym, ap, subst, arith}
+use Rattle.std.proofs.Common.{◌≡◌, ◌∙◌, ℕ, Bool, true, false, cond, List, [], ◌∷◌, ◌++◌, nat_eq, refl, sym, ap, inl, inr, arith}
 use Rattle.std.specs.Prelude.{Option, None, Some}
 use Rattle.std.specs.List.{AllByRecursion}
 use Rattle.std.proofs.lemmas.Bool.Decides.{nat_tests}
@@ -7,75 +7,40 @@ use Rattle.std.proofs.lemmas.List.{append-nil, append_assoc, map-append}
 use Rattle.hickory_proto_core.specs.Handles.{OutcomeValue}
 use Rattle.hickory_proto_core.specs.declared.recorded.Exchange.{Exchange}
 use Rattle.hickory_resolver.specs.Starting.{ResumesAt, StartsAt}
+use Rattle.hickory_resolver_events.specs.Events.{pending_after}
 use Rattle.hickory_resolver_model.specs.Cache.{CacheValue}
 use Rattle.hickory_resolver_model.specs.Resolver.{ResolverValue, settings}
 use Rattle.hickory_resolver_model.specs.Resuming.{ProgressValue, Waits, IsDone}
 use Rattle.hickory_resolver_model.specs.Run.{Call}
 use Rattle.hickory_resolver_theorems.specs.InterleavedCalls.{PendingCallValue, CallWorldValue, CallEventValue, CallStarted, CallFed, CallDropped, exchange_with, call_pending, placed, CallHappens, CallsHappen}
 use Rattle.hickory_resolver_theorems.specs.ResumingCalls.{WaitingCallValue, CallProgressValue}
+use Rattle.yimarotu_session_theorems.specs.NetworkCalls.{ComesAndGoes}
 use Rattle.yimarotu_session_theorems.proofs.Flights.{EachOnce, at, at-pushed, at-put, at-removed, cut, none-removed, once-pushed, once-put, once-removed, put_behind, values_of, with, without}
 
 abbrev pub Flights : Type 0
 Flights = List (ℕ × PendingCallValue)
 
--- ---- with what a call waits
-
-abbrev pub waiting_of : Option PendingCallValue → Option WaitingCallValue
-waiting_of None = None
-waiting_of (Some c) = Some c.waiting
-
-abbrev pub waiting_in : CallProgressValue → Option WaitingCallValue
-waiting_in (Waits w) = Some w
-waiting_in (IsDone result) = None
-
-abbrev pub pending_in : Call → List Exchange → CallProgressValue → Option PendingCallValue
-pending_in call asks (Waits w) = Some (record { call = call; asks = asks; waiting = w })
-pending_in call asks (IsDone result) = None
-
-pending-waits : (call : Call) (asks : List Exchange) (progress : CallProgressValue)
-    → waiting_of (pending_in call asks progress) ≡ waiting_in progress
-pending-waits call asks (Waits w) = refl
-pending-waits call asks (IsDone result) = refl
-
-pub record Pending (x : Option PendingCallValue) (w : WaitingCallValue) : Type 0 where
-  pub call : PendingCallValue
-  pub is : x ≡ Some call
-  pub waits : call.waiting ≡ w
-
-pending-there : (x : Option PendingCallValue) (w : WaitingCallValue) → waiting_of x ≡ Some w → Pending x w
-pending-there None w e = let clash : None ≡ Some w = e in absurd cc
-pending-there (Some c) w e = let same : c.waiting ≡ w = cc in record { call = c; is = refl; waits = same }
-
-none-there : (x : Option PendingCallValue) → waiting_of x ≡ None → x ≡ None
-none-there None e = refl
-none-there (Some c) e = let clash : Some c.waiting ≡ None = e in absurd cc
-
 -- ---- calls that wait under numbers are in flight
 
 -- under this number waits this one now, or none
-abbrev pub Puts : ℕ → Option WaitingCallValue → (ℕ → Option WaitingCallValue) → (ℕ → Option WaitingCallValue) → Type 0
+abbrev pub Puts : ℕ → Option PendingCallValue → (ℕ → Option PendingCallValue) → (ℕ → Option PendingCallValue) → Type 0
 Puts n x before after = (m : ℕ) → after m ≡ cond (nat_eq n m) x (before m)
 
-pub record AreFlying (flights : Flights) (waiting : ℕ → Option WaitingCallValue) : Type 0 where
+pub record AreFlying (flights : Flights) (waiting : ℕ → Option PendingCallValue) : Type 0 where
   pub once : EachOnce flights
-  pub wait : (n : ℕ) → waiting_of (at n flights) ≡ waiting n
+  pub wait : (n : ℕ) → at n flights ≡ waiting n
 
 -- the flights with this one under a number, or none
 pub record Put (n : ℕ) (x : Option PendingCallValue) (before after : Flights) : Type 0 where
   pub once : EachOnce after
   pub is : (m : ℕ) → at m after ≡ cond (nat_eq n m) x (at m before)
 
-put-flying : (n : ℕ) (x : Option PendingCallValue) (y : Option WaitingCallValue) (before after : Flights)
-    → (waiting later : ℕ → Option WaitingCallValue) → waiting_of x ≡ y → AreFlying before waiting → Put n x before after
-    → Puts n y waiting later → AreFlying after later
-put-flying n x y before after waiting later same flying put puts = record {
+put-flying : (n : ℕ) (x : Option PendingCallValue) (before after : Flights) (waiting later : ℕ → Option PendingCallValue)
+    → AreFlying before waiting → Put n x before after → Puts n x waiting later → AreFlying after later
+put-flying n x before after waiting later flying put puts = record {
   once = put.once;
-  wait = λ m. ap waiting_of (put.is m) ∙ by m (nat_eq n m) ∙ sym (puts m);
+  wait = λ m. put.is m ∙ ap (λ (y : Option PendingCallValue). cond (nat_eq n m) x y) (flying.wait m) ∙ sym (puts m);
 }
-  where
-    by : (m : ℕ) (b : Bool) → waiting_of (cond b x (at m before)) ≡ cond b y (waiting m)
-    by m true = same
-    by m false = flying.wait m
 
 -- ---- a call that was begun, and one that goes on
 
@@ -100,7 +65,7 @@ begun-put n (Some c) flights once none = record {
 }
 
 begun-values : (n : ℕ) (call : Call) (asks : List Exchange) (progress : CallProgressValue) (flights : Flights)
-    → values_of (begun_in n (pending_in call asks progress) flights) ≡ values_of flights ++ call_pending call asks progress
+    → values_of (begun_in n (pending_after call asks progress) flights) ≡ values_of flights ++ call_pending call asks progress
 begun-values n call asks (Waits w) flights =
     map-append (λ f. f.1) flights ((n, record { call = call; asks = asks; waiting = w }) ∷ [])
 begun-values n call asks (IsDone result) flights = sym (append-nil (values_of flights))
@@ -135,7 +100,7 @@ fed-put (IsDone result) n (Some d) c flights once there =
 
 module _ (n : ℕ) (c : PendingCallValue) (flights : Flights) (there : at n flights ≡ Some c) where
   fed-values : (lookup : ProgressValue) (call : Call) (asks : List Exchange) (progress : CallProgressValue)
-      → values_of (fed_in lookup n (pending_in call asks progress) flights)
+      → values_of (fed_in lookup n (pending_after call asks progress) flights)
       ≡ placed lookup (cut n c flights there).front (call_pending call asks progress) (cut n c flights there).back
   fed-values (Waits v) call asks (Waits w) =
       let r = cut n c flights there in
@@ -182,15 +147,15 @@ module _ {H : Type 0} (first : ResolverValue H) where
   -- it is told, and what is told of it happens
   pub record Moves
       (told : List CallEventValue) (cache : CacheValue) (flights : Flights) (after : ResolverValue H)
-      (waiting : ℕ → Option WaitingCallValue)
+      (waiting : ℕ → Option PendingCallValue)
       : Type 0 where
     pub left : Flights
     pub happen : CallsHappen (settings first) (world cache flights) told (world after.client.cache left)
     pub after_is : after ≡ over after.client.cache
     pub flying : AreFlying left waiting
 
-  module _ (cache : CacheValue) (flights : Flights) (waiting : ℕ → Option WaitingCallValue)
-      (flying : AreFlying flights waiting) (after : ResolverValue H) (later : ℕ → Option WaitingCallValue) where
+  module _ (cache : CacheValue) (flights : Flights) (waiting : ℕ → Option PendingCallValue)
+      (flying : AreFlying flights waiting) (after : ResolverValue H) (later : ℕ → Option PendingCallValue) where
     pub stays : after ≡ over cache → ((n : ℕ) → later n ≡ waiting n) → Moves [] cache flights after later
     stays same alike =
         let cache_is : after.client.cache ≡ cache = ap (λ (r : ResolverValue H). r.client.cache) same in
@@ -202,72 +167,52 @@ module _ {H : Type 0} (first : ResolverValue H) where
         }
 
     pub begins : (n : ℕ) (call : Call) (now : ℕ) (progress : CallProgressValue) → waiting n ≡ None
-        → StartsAt now call (over cache) progress after → Puts n (waiting_in progress) waiting later
+        → StartsAt now call (over cache) progress after → Puts n (pending_after call [] progress) waiting later
         → Moves (CallStarted call now progress ∷ []) cache flights after later
     begins n call now progress free starts puts =
-        let none = none-there (at n flights) (flying.wait n ∙ free) in
-        let x = pending_in call [] progress in
+        let x = pending_after call [] progress in
         let left = begun_in n x flights in
         record {
           left = left;
           happen = (world after.client.cache left, (starts.starts, refl, begun-values n call [] progress flights), refl);
           after_is = starts.others_stay;
-          flying = put-flying n x (waiting_in progress) flights left waiting later (pending-waits call [] progress) flying
-              (begun-put n x flights flying.once none) puts;
+          flying = put-flying n x flights left waiting later flying
+              (begun-put n x flights flying.once (flying.wait n ∙ free)) puts;
         }
 
     -- a call that waits goes on
-    pub record Feeds (w : WaitingCallValue) (outcome : OutcomeValue) (progress : CallProgressValue) : Type 0 where
-      pub call : PendingCallValue
-      pub waits : call.waiting ≡ w
-      pub moves : Moves (CallFed call outcome progress ∷ []) cache flights after later
-
-    pub feeds : (n : ℕ) (w : WaitingCallValue) (outcome : OutcomeValue) (progress : CallProgressValue)
-        → waiting n ≡ Some w → ResumesAt w outcome (over cache) progress after
-        → Puts n (waiting_in progress) waiting later → Feeds w outcome progress
-    feeds n w outcome progress there resumes puts =
-        let p = pending-there (at n flights) w (flying.wait n ∙ there) in
-        let c = p.call in
-        let r = cut n c flights p.is in
-        let own : ResumesAt c.waiting outcome (over cache) progress after = subst (λ (v : WaitingCallValue). ResumesAt v outcome (over cache) progress after) (sym p.waits) resumes in
+    pub feeds : (n : ℕ) (c : PendingCallValue) (outcome : OutcomeValue) (progress : CallProgressValue)
+        → waiting n ≡ Some c → ResumesAt c.waiting outcome (over cache) progress after
+        → Puts n (pending_after c.call (c.asks ++ exchange_with c outcome ∷ []) progress) waiting later
+        → Moves (CallFed c outcome progress ∷ []) cache flights after later
+    feeds n c outcome progress there resumes puts =
+        let flies : at n flights ≡ Some c = flying.wait n ∙ there in
+        let r = cut n c flights flies in
         let asks = c.asks ++ exchange_with c outcome ∷ [] in
-        let x = pending_in c.call asks progress in
-        let left = fed_in own.resumes.0 n x flights in
+        let x = pending_after c.call asks progress in
+        let left = fed_in resumes.resumes.0 n x flights in
         record {
-          call = c;
-          waits = p.waits;
-          moves = record {
-            left = left;
-            happen = (world after.client.cache left, (r.front, r.back, r.are, own.resumes, refl, fed-values n c flights p.is own.resumes.0 c.call asks progress), refl);
-            after_is = own.others_stay;
-            flying = put-flying n x (waiting_in progress) flights left waiting later (pending-waits c.call asks progress) flying
-                (fed-put own.resumes.0 n x c flights flying.once p.is) puts;
-          };
+          left = left;
+          happen = (world after.client.cache left, (r.front, r.back, r.are, resumes.resumes, refl, fed-values n c flights flies resumes.resumes.0 c.call asks progress), refl);
+          after_is = resumes.others_stay;
+          flying = put-flying n x flights left waiting later flying
+              (fed-put resumes.resumes.0 n x c flights flying.once flies) puts;
         }
 
     -- a call that waits is dropped
-    pub record Drops : Type 0 where
-      pub call : PendingCallValue
-      pub moves : Moves (CallDropped call ∷ []) cache flights after later
-
-    pub drops : (n : ℕ) (w : WaitingCallValue) → waiting n ≡ Some w → after ≡ over cache → Puts n None waiting later
-        → Drops
-    drops n w there same puts =
-        let p = pending-there (at n flights) w (flying.wait n ∙ there) in
-        let c = p.call in
-        let r = cut n c flights p.is in
+    pub drops : (n : ℕ) (c : PendingCallValue) → waiting n ≡ Some c → after ≡ over cache → Puts n None waiting later
+        → Moves (CallDropped c ∷ []) cache flights after later
+    drops n c there same puts =
+        let r = cut n c flights (flying.wait n ∙ there) in
         let cache_is : after.client.cache ≡ cache = ap (λ (q : ResolverValue H). q.client.cache) same in
         let left = without n flights in
         let calls_are : world after.client.cache left ≡ record (world cache flights) { calls = r.front ++ r.back } = λ i. record { cache = cache_is i; hosts = first.hosts; calls = r.removed i } in
         record {
-          call = c;
-          moves = record {
-            left = left;
-            happen = (world after.client.cache left, (r.front, r.back, r.are, calls_are), refl);
-            after_is = same ∙ ap over (sym cache_is);
-            flying = put-flying n None None flights left waiting later refl flying
-                (record { once = once-removed n flights flying.once; is = λ m. at-removed n m flights flying.once }) puts;
-          };
+          left = left;
+          happen = (world after.client.cache left, (r.front, r.back, r.are, calls_are), refl);
+          after_is = same ∙ ap over (sym cache_is);
+          flying = put-flying n None flights left waiting later flying
+              (record { once = once-removed n flights flying.once; is = λ m. at-removed n m flights flying.once }) puts;
         }
 
     -- ---- a call that is started, goes on once at the most, and is let go
@@ -280,6 +225,7 @@ module _ {H : Type 0} (first : ResolverValue H) where
         pub told : List CallEventValue
         pub moves : Moves told cache flights after later
         pub all : AllByRecursion Passes told
+        pub comes_and_goes : ComesAndGoes call now told
 
       flying-on : AreFlying flights later
       flying-on = record { once = flying.once; wait = λ n. flying.wait n ∙ sym (alike n) }
@@ -315,6 +261,7 @@ module _ {H : Type 0} (first : ResolverValue H) where
               flying = flying-on;
             };
             all = (begun (IsDone result), tt);
+            comes_and_goes = record { progress = IsDone result; later = []; told_is = refl; goes = inl refl };
           }
           by (Waits w) starts =
               let c = one_pending call [] w in
@@ -331,6 +278,7 @@ module _ {H : Type 0} (first : ResolverValue H) where
                   flying = flying-on;
                 };
                 all = (begun (Waits w), (let_go c, tt));
+                comes_and_goes = record { progress = Waits w; later = CallDropped c ∷ []; told_is = refl; goes = inl refl };
               }
 
       -- it waits, and goes on with this
@@ -362,6 +310,12 @@ module _ {H : Type 0} (first : ResolverValue H) where
                   flying = flying-on;
                 };
                 all = (begun (Waits w), (passes, tt));
+                comes_and_goes = record {
+                  progress = Waits w;
+                  later = CallFed c outcome (IsDone result) ∷ [];
+                  told_is = refl;
+                  goes = inr (outcome, IsDone result, refl);
+                };
               }
           by (Waits v) resumes passes =
               let c = one_pending call [] w in
@@ -389,6 +343,12 @@ module _ {H : Type 0} (first : ResolverValue H) where
                   flying = flying-on;
                 };
                 all = (begun (Waits w), (passes, (let_go d, tt)));
+                comes_and_goes = record {
+                  progress = Waits w;
+                  later = CallFed c outcome (Waits v) ∷ CallDropped d ∷ [];
+                  told_is = refl;
+                  goes = inr (outcome, Waits v, refl);
+                };
               }
 
     pub clears : (told : CallEventValue) → CallHappens (settings first) (world cache flights) told (world after.client.cache flights)

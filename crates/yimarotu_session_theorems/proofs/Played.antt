@@ -11,7 +11,7 @@ use Rattle.hickory_resolver_theorems.specs.InterleavedCalls.{CallEventValue, Cal
 use Rattle.hickory_resolver_theorems.proofs.CallReplies.{replies_promised}
 use Rattle.yimarotu_session.specs.NetworkSessions.{NetworkValue, new_session}
 use Rattle.yimarotu_session_theorems.specs.NetworkLaws.{IsPlayedOver, SessionsPlayCalls}
-use Rattle.yimarotu_session_theorems.specs.NetworkRuns.{NetworkEvent, NetworkRuns, at_first, next, octets_in}
+use Rattle.yimarotu_session_theorems.specs.NetworkRuns.{NetworkEvent, NetworkRuns, at_first, next}
 use Rattle.yimarotu_session_theorems.proofs.Changes.{happens}
 use Rattle.yimarotu_session_theorems.proofs.Kept.{Kept, happen-append, kept-first}
 use Rattle.yimarotu_session_theorems.proofs.Moves.{world}
@@ -32,12 +32,12 @@ as-promised s empty first none earlier before so_far (event ∷ later) end (afte
 
 module _ (resolver : ResolverValue (List OutcomeValue)) (limits : PoolLimits) (seed : List ℕ) where
   kept : {events : List NetworkEvent} {session : NetworkValue} → NetworkRuns (new_session resolver limits seed) events session
-      → Kept resolver limits seed (octets_in events) session
+      → Kept resolver limits seed events session
   kept at_first = kept-first resolver limits seed
   kept (next past event before after is runs) =
-      happens resolver limits seed (octets_in past) before (kept runs) after event is
+      happens resolver limits seed past before (kept runs) after event is
 
-  played : (events : List NetworkEvent) (session : NetworkValue) → Kept resolver limits seed (octets_in events) session
+  played : (events : List NetworkEvent) (session : NetworkValue) → Kept resolver limits seed events session
       → IsPlayedOver resolver limits seed events session
   played events session k =
       let cache = resolver.client.cache in
@@ -47,12 +47,15 @@ module _ (resolver : ResolverValue (List OutcomeValue)) (limits : PoolLimits) (s
         pool_runs = k.runs;
         came = k.came;
         told = k.told;
+        calls = k.calls;
+        tells = k.tells;
         world = end;
         happen = k.happen;
         cache_is = refl;
         others_stay = k.after_is;
         fed = k.fed;
         done = k.done;
+        as_calls = k.as_calls;
         promised = λ none. as-promised (settings resolver) cache resolver.hosts none [] (call_world_of cache resolver.hosts) refl k.told end k.happen;
       }
 

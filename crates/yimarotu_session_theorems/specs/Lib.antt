@@ -1,3 +1,4 @@
+pub mod NetworkCalls
 pub mod NetworkLaws
 pub mod NetworkPlaces
 pub mod NetworkRuns

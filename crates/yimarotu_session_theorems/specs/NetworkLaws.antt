@@ -1,5 +1,5 @@
 -- What holds of a session with a network after every list of events and steps.
-use Rattle.std.specs.Prelude.{◌≡◌, ◌⊎◌, Bool, List, [], ◌∷◌, ◌++◌, ℕ, None, Ok, Some, true}
+use Rattle.std.specs.Prelude.{◌≡◌, ◌⊎◌, Bool, List, [], ◌∷◌, ◌++◌, ℕ, None, Ok, Option, Some, true}
 use Rattle.std.specs.List.{AllByRecursion}
 use Rattle.hickory_proto_core.specs.Handles.{OutcomeValue}
 use Rattle.hickory_proto_core.specs.Messages.{MessageValue}
@@ -21,7 +21,7 @@ use Rattle.hickory_resolver_pool.specs.declared.pool.Asked.TheVariants as asked
 use Rattle.hickory_resolver_pool_theorems.specs.Handles.{IsReadOfOctets}
 use Rattle.hickory_resolver_pool_theorems.specs.Runs.{Happening, Runs, WasOver, came}
 use Rattle.hickory_resolver_pool_theorems.specs.Runs as pool
-use Rattle.hickory_resolver_theorems.specs.InterleavedCalls.{CallEventValue, CallFed, CallStarted, CallWorldValue, CallsHappen, call_world_of}
+use Rattle.hickory_resolver_theorems.specs.InterleavedCalls.{CallEventValue, CallFed, CallStarted, CallWorldValue, CallsHappen, PendingCallValue, call_world_of}
 use Rattle.hickory_resolver_theorems.specs.ResumingCalls.{WaitingCallValue}
 use Rattle.hickory_resolver_tries.specs.Question.{question_eq, question_of}
 use Rattle.hickory_resolver_tries.specs.declared.pool_question.PoolQuestion.{PoolQuestion}
@@ -29,7 +29,10 @@ use Rattle.yimarotu_session.specs.LookupTables.{TableValue, held_at}
 use Rattle.yimarotu_session.specs.Messages.{whole_query}
 use Rattle.yimarotu_session.specs.NetworkSessions.{NetworkValue, new_session}
 use Rattle.yimarotu_session.specs.NetworkSteps.{no_dnssec}
+use Rattle.yimarotu_session.specs.declared.network_lookup.NetworkLookup.{NetworkLookup}
 use Rattle.yimarotu_session.specs.declared.network_lookup.NetworkLookup.TheVariants.{Done}
+use Rattle.yimarotu_session.specs.declared.network_lookup.NetworkLookup.TheVariants as lookup
+use Rattle.yimarotu_session_theorems.specs.NetworkCalls.{AreTold, Calls, waits_now}
 use Rattle.yimarotu_session_theorems.specs.NetworkRuns.{NetworkEvent, NetworkRuns, octets_in}
 
 -- ---- what a look-up goes on with
@@ -99,13 +102,36 @@ AreOfCalls told table =
     (number : ℕ) (found : LookupResult) (announced : Bool) → held_at number table ≡ Some (Done found announced)
     → SomeComesTo found told
 
+-- ---- what a look-up has
+
+-- its call waits with this
+abbrev pub IsWaiting : WaitingCallValue → Option PendingCallValue → Type 0
+IsWaiting w held = (c : PendingCallValue) × (held ≡ Some c) × (c.waiting ≡ w)
+
+-- its call came to this
+abbrev pub HasCome : LookupResult → List CallEventValue → Type 0
+HasCome result [] = ⊥
+HasCome result (event ∷ earlier) = ComesTo result event
+
+-- A look-up waits as its call does, and came to what its call came to. Where there is none, there is no call.
+abbrev pub IsAsCall : List CallEventValue → Option NetworkLookup → Type 0
+IsAsCall call None = call ≡ []
+IsAsCall call (Some (lookup.Asks w)) = IsWaiting w (waits_now call)
+IsAsCall call (Some (lookup.Asked w a)) = IsWaiting w (waits_now call)
+IsAsCall call (Some (Done found announced)) = HasCome found call
+
+-- and so is each of them as the call that was begun last under its number
+abbrev pub AreAsCalls : Calls → TableValue → Type 0
+AreAsCalls calls table = (number : ℕ) → IsAsCall (calls number) (held_at number table)
+
 -- ---- what happened to the resolver
 
 -- What happened to the resolver of a session is a list of events of its calls, one after another from its cache and its
--- table of hosts on: calls start, go on with what the pool told, and are dropped, and the cache is cleared. The cache
--- alone has changed. Where it had no entries at first, each event keeps its promises, and so does the reply of each
--- call that is done; and what a look-up came to is what a call came to. The pool is one as its own laws have it, and the
--- octets that came to it are those that came to the session.
+-- table of hosts on: calls start, go on with what the pool told, and are dropped, and the cache is cleared. It is what
+-- the session's events tell, in their order, and each look-up is as the call that was begun last under its number. Of
+-- the resolver the cache alone has changed. Where it had no entries at first, each event keeps its promises, and so does
+-- the reply of each call that is done. The pool is one as its own laws have it, and the octets that came to it are those
+-- that came to the session.
 pub record IsPlayedOver
     (resolver : ResolverValue (List OutcomeValue)) (limits : PoolLimits) (seed : List ℕ) (events : List NetworkEvent)
     (session : NetworkValue)
@@ -114,6 +140,8 @@ pub record IsPlayedOver
   pub pool_runs : Runs (no_servers resolver.options limits seed) past session.pool
   pub came : pool.octets_in past ≡ octets_in events
   pub told : List CallEventValue
+  pub calls : Calls
+  pub tells : AreTold (settings resolver) events told calls
   pub world : CallWorldValue
   pub happen : CallsHappen (settings resolver) (call_world_of resolver.client.cache resolver.hosts) told world
   pub cache_is : session.resolver.client.cache ≡ world.cache
@@ -121,6 +149,7 @@ pub record IsPlayedOver
   pub fed : AllByRecursion
       (IsFedFrom (no_servers resolver.options limits seed) (request_options_of resolver.options) past) told
   pub done : AreOfCalls told session.table
+  pub as_calls : AreAsCalls calls session.table
   pub promised : resolver.client.cache.entries ≡ []
       → HappenAsPromised (settings resolver) resolver.client.cache resolver.hosts []
       (call_world_of resolver.client.cache resolver.hosts) told world
