@@ -132,7 +132,7 @@ dropped-so r b a answered dropped h = stays never not-replied (as_before (core b
     never : answered ≡ Waits → ⊥
     never is = let clash : Dropped ≡ Waits = sym dropped ∙ is in cc
 
-late-is : (f : FetchValue) (r : RequestValue) (b : ForwarderValue) (octets : List ℕ) → late_hit f r b ≡ Some octets
+pub late-is : (f : FetchValue) (r : RequestValue) (b : ForwarderValue) (octets : List ℕ) → late_hit f r b ≡ Some octets
     → stale_hit r (key_of r) b ≡ Some octets
 late-is f r b octets h = by (is_late f b.clock) h
   where

@@ -2,7 +2,6 @@
 use Rattle.std.proofs.Common.{◌≡◌, ◌∙◌, ℕ, inl, inr, true, List, [], ◌∷◌, ◌++◌, refl, sym, ap, subst}
 use Rattle.std.specs.Prelude.{Option, None, Some, cond}
 use Rattle.std.specs.Option.{option_and_then}
-use Rattle.hickory_proto_wire.specs.declared.wire_message.WireMessage.{WireMessage}
 use Rattle.hickory_resolver_config.specs.ResolverConfig.{OptionsValue as PoolOptions}
 use Rattle.hickory_resolver_flights.specs.Flights.{KeptValue}
 use Rattle.hickory_resolver_pool.specs.Laws.{PoolEvent, after_event}
@@ -27,21 +26,24 @@ use Rattle.yimarotu_forwarder.specs.Telling.{response_in, response_of}
 use Rattle.yimarotu_forwarder_theorems.specs.Believed.{RepliesWereBelieved, WasBelieved}
 use Rattle.yimarotu_forwarder_theorems.specs.Lookups.{ToldReply, WasTold}
 use Rattle.yimarotu_forwarder_theorems.specs.Runs.{ForwarderEvent, Happening, Runs, at_first, happened, next, octets_by, octets_of_servers}
-use Rattle.yimarotu_forwarder_theorems.proofs.Pools.{Goes, PoolGoes, TellsSame, goes, near_by, octets_go, pool_goes, pool_stays, pool_steps}
+use Rattle.yimarotu_forwarder_theorems.proofs.Parts.{Goes, PoolGoes, TellsSame, near_by, octets_go, part, pool-goes, pool-in, pool_goes, pool_stays, pool_steps, telling-goes, telling-in, tells-same}
+use Rattle.yimarotu_forwarder_theorems.proofs.Pools.{goes}
 
 module _ (options : PoolOptions) (limits : PoolLimits) (seed : List ℕ) where
   abbrev start : PoolState
   start = no_servers options limits seed
 
   abbrev IsBelievedOver : List pool.Happening → OverValue → Type 0
-  IsBelievedOver past o = (m : WireMessage) → response_of o ≡ Some m → WasBelieved start past m
+  IsBelievedOver past o =
+      (r : ToldReply) → response_of o ≡ Some r.message → r.question ≡ o.question → WasBelieved start past r
 
   -- what was believed stays so, whatever happens later
-  grown : (more past : List pool.Happening) (m : WireMessage) → WasBelieved start past m
-      → WasBelieved start (more ++ past) m
-  grown more past m b = record {
+  grown : (more past : List pool.Happening) (r : ToldReply) → WasBelieved start past r
+      → WasBelieved start (more ++ past) r
+  grown more past r b = record {
     over = b.over;
     was_over = over-grows start more past b.over b.was_over;
+    question = b.question;
     reply = b.reply;
     believed = b.believed;
     spells = b.spells;
@@ -67,24 +69,25 @@ module _ (options : PoolOptions) (limits : PoolLimits) (seed : List ℕ) where
   -- a transaction that is over with a reply
   was-over : (past : List pool.Happening) (p q : PoolState) (o : OverValue) → in_pool.Steps p (Some (does.Over o)) q
       → pool.Runs start past p → IsBelievedOver (pool.did p (Some (does.Over o)) ∷ past) o
-  was-over past p q o steps runs m is = by o.outcome refl o.kept refl is
+  was-over past p q o steps runs r is asked = by o.outcome refl o.kept refl is
     where
-      found : (k : KeptValue) → o.kept ≡ Some k → o.outcome ≡ Response → k.message ≡ Some m
-          → WasBelieved start (pool.did p (Some (does.Over o)) ∷ past) m
+      found : (k : KeptValue) → o.kept ≡ Some k → o.outcome ≡ Response → k.message ≡ Some r.message
+          → WasBelieved start (pool.did p (Some (does.Over o)) ∷ past) r
       found k kept response spells =
           let reply : is_of_reply o.outcome ≡ true = ap is_of_reply response in
           let made = nothing_is_made_up options limits seed past p q o runs steps reply in
           record {
             over = o;
             was_over = record { later = []; earlier = past; before = p; after = q; happened = refl; runs = runs; ends = steps };
+            question = sym asked;
             reply = k;
             believed = subst (HasBelievedReply past o) kept made;
             spells = spells;
           }
 
       by : (what : PoolOutcome) → o.outcome ≡ what → (kept : Option KeptValue) → o.kept ≡ kept
-          → response_in what (option_and_then (λ k. k.message) (cond (is_of_reply what) kept None)) ≡ Some m
-          → WasBelieved start (pool.did p (Some (does.Over o)) ∷ past) m
+          → response_in what (option_and_then (λ k. k.message) (cond (is_of_reply what) kept None)) ≡ Some r.message
+          → WasBelieved start (pool.did p (Some (does.Over o)) ∷ past) r
       by Response response None kept e = absurd cc
       by Response response (Some k) kept e = found k kept response e
       by Cut response kept' kept e = absurd cc
@@ -99,7 +102,7 @@ module _ (options : PoolOptions) (limits : PoolLimits) (seed : List ℕ) where
     pub runs : pool.Runs start pool_past s.pool
     pub came : pool.octets_in pool_past ≡ octets_of_servers past
     pub telling : (t : TellingValue) → s.telling ≡ Some t → IsBelievedOver pool_past t.over
-    pub told : (r : ToldReply) → WasTold past r → WasBelieved start pool_past r.message
+    pub told : (r : ToldReply) → WasTold past r → WasBelieved start pool_past r
 
   module _ (past : List Happening) (event : ForwarderEvent) (b a : ForwarderValue) (h : Stands past b) where
     stands-on : (more : List pool.Happening) → pool.Runs start (more ++ h.pool_past) a.pool
@@ -114,9 +117,9 @@ module _ (options : PoolOptions) (limits : PoolLimits) (seed : List ℕ) where
       told = λ r w. by r w;
     }
       where
-        by : (r : ToldReply) → WasTold (happened event b a ∷ past) r → WasBelieved start (more ++ h.pool_past) r.message
-        by r (inl (t, is, response, second)) = grown more h.pool_past r.message (h.telling t is r.message response)
-        by r (inr told) = grown more h.pool_past r.message (h.told r told)
+        by : (r : ToldReply) → WasTold (happened event b a ∷ past) r → WasBelieved start (more ++ h.pool_past) r
+        by r (inl (t, is, response, asked, second)) = grown more h.pool_past r (h.telling t is r response asked)
+        by r (inr told) = grown more h.pool_past r (h.told r told)
 
     -- what is told stays, or nothing is
     tells-on : (more : List pool.Happening) → TellsSame b.telling a.telling → (t : TellingValue) → a.telling ≡ Some t
@@ -124,7 +127,7 @@ module _ (options : PoolOptions) (limits : PoolLimits) (seed : List ℕ) where
     tells-on more same t is =
         let found = same t is in
         subst (IsBelievedOver (more ++ h.pool_past)) (sym found.2)
-        (λ m response. grown more h.pool_past m (h.telling found.0 found.1 m response))
+        (λ r response asked. grown more h.pool_past r (h.telling found.0 found.1 r response asked))
 
     stepped : (did : Option Action) → in_pool.Steps b.pool did a.pool → a.telling ≡ telling_of did
         → (t : TellingValue) → a.telling ≡ Some t → IsBelievedOver (pool.did b.pool did ∷ h.pool_past) t.over
@@ -144,19 +147,22 @@ module _ (options : PoolOptions) (limits : PoolLimits) (seed : List ℕ) where
 
     goes-on : (came : List PoolEvent) → octets_by event ≡ came → Goes b a came → Stands (happened event b a ∷ past) a
     goes-on came is (near_by near) =
-        let l = went h.pool_past (octets_of_servers past) b.pool a.pool near.goes (record { more = []; runs = h.runs; are = h.came }) in
+        let l = went h.pool_past (octets_of_servers past) b.pool a.pool (pool-goes (part b) (part a) near)
+        (record { more = []; runs = h.runs; are = h.came }) in
         stands-on l.more l.runs
-        (l.are ∙ ap (λ (l : List PoolEvent). l ++ octets_of_servers past) (sym is)) (tells-on l.more near.tells)
-    goes-on came is (octets_go e pool_is tells) =
+        (l.are ∙ ap (λ (l : List PoolEvent). l ++ octets_of_servers past) (sym is)) (tells-on l.more (telling-goes (part b) (part a) near))
+    goes-on came is (octets_go e kept part_is) =
         let more : List pool.Happening = pool.came b.pool e ∷ [] in
         stands-on more
-        (subst (λ (p : PoolState). pool.Runs start (more ++ h.pool_past) p) (sym pool_is) (pool.by_event h.pool_past b.pool e h.runs))
+        (subst (λ (p : PoolState). pool.Runs start (more ++ h.pool_past) p) (sym (ap pool-in part_is))
+        (pool.by_event h.pool_past b.pool e h.runs))
         (ap (λ (l : List PoolEvent). pool.octets_of e ++ l) h.came
         ∙ ap (λ (l : List PoolEvent). l ++ octets_of_servers past) (sym is))
-        (tells-on more tells)
-    goes-on came is (pool_steps did steps told) =
+        (tells-on more (tells-same b.telling a.telling (ap telling-in part_is)))
+    goes-on came is (pool_steps did steps part_is) =
         stands-on (pool.did b.pool did ∷ []) (pool.by_step h.pool_past b.pool a.pool did steps h.runs)
-        (h.came ∙ ap (λ (l : List PoolEvent). l ++ octets_of_servers past) (sym is)) (stepped did steps told)
+        (h.came ∙ ap (λ (l : List PoolEvent). l ++ octets_of_servers past) (sym is))
+        (stepped did steps (ap telling-in part_is))
 
   module _ (own : OptionsValue) (local : LocalValue) (cache failures : CacheBounds) where
     stands : (past : List Happening) (s : ForwarderValue) → Runs (new_forwarder own local cache failures start) past s

@@ -35,7 +35,7 @@ use Rattle.yimarotu_forwarder.specs.Prefetching.{key_dnssec}
 use Rattle.yimarotu_forwarder.specs.Replying.{end_of}
 use Rattle.yimarotu_forwarder.specs.Telling.{earlier_second, replying_of}
 use Rattle.yimarotu_forwarder.specs.declared.choices.TheConstants.{LONGEST_STALE}
-use Rattle.yimarotu_forwarder_theorems.specs.Lookups.{IsKnown, IsTelling, LastsTo, Storing, ToldReply, stored_so}
+use Rattle.yimarotu_forwarder_theorems.specs.Lookups.{IsHeard, IsKnown, LastsTo, Storing, ToldReply, stored_so}
 
 abbrev pub Fetching : Type 0
 Fetching = List (List ℕ × FetchValue)
@@ -80,13 +80,14 @@ stored-at q kept second s h = by (is_none (store_fault q kept)) h
 
 -- ---- changes in which nobody comes to wait, and nobody is replied to
 
--- what a step stands on: a reply that is told, or what is known here of a question at a second
+-- what a step stands on: a reply that a look-up is told which has to ask this question, with DO or without; or what is
+-- known here of a question at a second
 pub data Source : Type 0 where
-  told_reply : ToldReply → Source
+  told_reply : ToldReply → Query → Bool → Source
   known_here : Query → KeptValue → ℕ → Source
 
 abbrev pub IsSaid : ForwarderValue → Source → Type 0
-IsSaid b (told_reply r) = IsTelling b r
+IsSaid b (told_reply r q dnssec) = IsHeard b r q dnssec
 IsSaid b (known_here q here second) = IsKnown b q here second
 
 -- a look-up that begins under a key
@@ -101,7 +102,7 @@ pub record IsSame (f g : FetchValue) : Type 0 where
 -- a reply led it on to another question
 pub record IsLed (said : Source → Type 0) (before after : FetchValue) : Type 0 where
   pub reply : ToldReply
-  pub told : said (told_reply reply)
+  pub told : said (told_reply reply before.lookup.next before.lookup.dnssec)
   pub asks : heard reply.message before.lookup ≡ Asks
   pub led : after.lookup ≡ whole.after reply.message before.lookup
   pub since : after.heard ≡ Some (earlier_second before.heard reply.second)
@@ -126,8 +127,8 @@ pub record EndsByKept (cache : CacheValue CachedValue) (l : LookupValue) (most n
 pub data IsEndOf (said : Source → Type 0) (cache : CacheValue CachedValue) (f : FetchValue) (most : ℕ)
     (end : FetchEnd) : Type 0 where
   has_failed : (why : FailureReason) → end ≡ Failure why → IsEndOf said cache f most end
-  has_heard : (r : ToldReply) (kept : KeptValue) → said (told_reply r) → heard r.message f.lookup ≡ Whole kept
-      → most ≡ f.lookup.count → (how : Storing) → how.second ≡ earlier_second f.heard r.second
+  has_heard : (r : ToldReply) (kept : KeptValue) → said (told_reply r f.lookup.next f.lookup.dnssec)
+      → heard r.message f.lookup ≡ Whole kept → most ≡ f.lookup.count → (how : Storing) → how.second ≡ earlier_second f.heard r.second
       → end ≡ end_so f.lookup.asked kept how → IsEndOf said cache f most end
   is_known : (here : KeptValue) (now : ℕ) → said (known_here f.lookup.next here now)
       → most ≡ min (f.lookup.count - 1 + 0) (2 ^ 32 - 1) → (how : Storing)
@@ -141,8 +142,8 @@ pub data IsEndOf (said : Source → Type 0) (cache : CacheValue CachedValue) (f 
 -- a reply ends a chain by itself
 pub record IsChainEnd (said : Source → Type 0) (e : ChainEndValue) : Type 0 where
   pub reply : ToldReply
-  pub told : said (told_reply reply)
   pub question : Query
+  pub told : said (told_reply reply question (key_dnssec e.key))
   pub kept : KeptValue
   pub keeps : kept_of question (key_dnssec e.key) reply.message ≡ Some kept
   pub ends : next_question question reply.message.message ≡ None

@@ -1,5 +1,7 @@
 pub mod Afters
 pub mod Answering
+pub mod AskerLists
+pub mod Askings
 pub mod Believed
 pub mod Bounds
 pub mod Counted
@@ -12,8 +14,11 @@ pub mod KeptValues
 pub mod Lookups
 pub mod Networks
 pub mod Octets
+pub mod Parts
 pub mod Pools
+pub mod Questions
 pub mod Replied
 pub mod Stepping
 pub mod Stopping
+pub mod ToldAtOnce
 pub mod Waiting

@@ -44,8 +44,8 @@ use Rattle.yimarotu_forwarder.specs.Local.{LocalValue}
 use Rattle.yimarotu_forwarder.specs.NextQuestions.{asked_octets}
 use Rattle.yimarotu_forwarder.specs.Options.{OptionsValue, stale_seconds}
 use Rattle.yimarotu_forwarder.specs.Prefetching.{key_dnssec}
-use Rattle.yimarotu_forwarder.specs.Stale.{if_stale}
-use Rattle.yimarotu_forwarder_theorems.specs.Lookups.{AnswersAreOfReplies, HasShortTtl, HeardReplies, IsAnswer, IsKeptAnswer, IsMadeOf, IsStaleAnswer, AreSince, LastsTo, StaleAnswersAreOfReplies, Storing, ToldReply, WasKnown, WasTold, by_kept_end, by_local_data, by_servers, messages, stored_so}
+use Rattle.yimarotu_forwarder.specs.Stale.{if_stale, stale_in}
+use Rattle.yimarotu_forwarder_theorems.specs.Lookups.{AnswersAreOfReplies, AreHeard, HasShortTtl, HeardReplies, IsAnswer, IsKeptAnswer, IsMadeOf, IsStaleAnswer, AreSince, LastsTo, StaleAnswersAreOfReplies, Storing, ToldReply, WasHeard, WasKnown, WasTold, by_kept_end, by_local_data, by_servers, messages, stored_so}
 use Rattle.yimarotu_forwarder_theorems.specs.Runs.{ForwarderEvent, Happening, Runs, at_first, happened, next}
 use Rattle.yimarotu_forwarder_theorems.proofs.Cores.{Core, Fetching, IsBegun, IsChainEnd, IsEndOf, IsLed, IsSaid, IsThatOf, Joins, Leaves, Puts, Source, Still, Stills, StoresEnd, as_before, begins_alone, cache_changes, chain_ends, core, end_so, failures_change, has_failed, has_heard, is_flushed, is_heard, is_kept, is_known, is_let_go, is_over, is_told_late, known_here, left_by, more, no_chain_ends, stored-at, told_reply}
 use Rattle.yimarotu_forwarder_theorems.proofs.Events.{EventMoves, event_goes, event_joins, event_leaves, event_options, event_stays, moves}
@@ -122,6 +122,25 @@ as-many : (rs : Replies) → length (messages rs) ≡ length rs
 as-many [] = refl
 as-many (r ∷ rs) = ap suc (as-many rs)
 
+heard-told : (past : List Happening) (r : ToldReply) (q : Query) (dnssec : Bool) → WasHeard past r q dnssec
+    → WasTold past r
+heard-told [] r q dnssec never = absurd never
+heard-told (happened event b a ∷ past) r q dnssec (inl now) = inl now.telling
+heard-told (happened event b a ∷ past) r q dnssec (inr was) = inr (heard-told past r q dnssec was)
+
+-- one more is heard, by a look-up that has to ask what those before led to
+heard-behind : (past : List Happening) (l : LookupValue) (rs : Replies) (r : ToldReply) → AreHeard past l rs
+    → WasHeard past r (after_all l (messages rs)).next (after_all l (messages rs)).dnssec
+    → AreHeard past l (rs ++ r ∷ [])
+heard-behind past l [] r all one = (one, tt)
+heard-behind past l (x ∷ rs) r all one = (all.0, heard-behind past (after x.message l) rs r all.1 one)
+
+heard-before : (h : Happening) (past : List Happening) (l : LookupValue) (rs : Replies) → AreHeard past l rs
+    → AreHeard (h ∷ past) l rs
+heard-before (happened event b a) past l [] all = tt
+heard-before (happened event b a) past l (r ∷ rs) all =
+    (inr all.0, heard-before (happened event b a) past (after r.message l) rs all.1)
+
 told-before : (h : Happening) (past : List Happening) (rs : Replies) → AllByRecursion (WasTold past) rs
     → AllByRecursion (WasTold (h ∷ past)) rs
 told-before (happened event b a) past [] all = tt
@@ -168,6 +187,7 @@ module _ (past : List Happening) where
     pub question : Query
     pub replies : Replies
     pub told : AllByRecursion (WasTold past) replies
+    pub in_turn : AreHeard past (begun question dnssec) replies
     pub reached : l ≡ after_all (begun question dnssec) (messages replies)
     pub lead : LeadOn (begun question dnssec) (messages replies)
     pub asked : l.asked ≡ question
@@ -179,6 +199,7 @@ module _ (past : List Happening) where
     question = q;
     replies = [];
     told = tt;
+    in_turn = tt;
     reached = is;
     lead = tt;
     asked = ap (λ (x : LookupValue). x.asked) is;
@@ -187,8 +208,15 @@ module _ (past : List Happening) where
 
   -- what happened said it
   abbrev Was : Source → Type 0
-  Was (told_reply r) = WasTold past r
+  Was (told_reply r q dnssec) = WasHeard past r q dnssec
   Was (known_here q here second) = WasKnown past q here second
+
+  -- of the look-up that those before led to
+  heard-next : (dnssec : Bool) (l : LookupValue) (noted : Option ℕ) (r : IsReached dnssec l noted) (x : ToldReply)
+      → WasHeard past x l.next l.dnssec → AreHeard past (begun r.question dnssec) (r.replies ++ x ∷ [])
+  heard-next dnssec l noted r x was =
+      heard-behind past (begun r.question dnssec) r.replies x r.in_turn
+      (subst (λ (k : LookupValue). WasHeard past x k.next k.dnssec) r.reached was)
 
   led-so : {said : Source → Type 0} (dnssec : Bool) (f g : FetchValue) → ((x : Source) → said x → Was x)
       → g.lookup.asked ≡ f.lookup.asked → IsLed said f g → IsReached dnssec f.lookup f.heard
@@ -199,10 +227,13 @@ module _ (past : List Happening) where
       let all : messages (r.replies ++ led.reply ∷ []) ≡ ms ++ m ∷ [] = messages-behind r.replies led.reply in
       let on : heard m (after_all (begun r.question dnssec) ms) ≡ Asks = ap (heard m) (sym r.reached) ∙ led.asks in
       let first = earlier_second f.heard led.reply.second in
+      let was = tells (told_reply led.reply f.lookup.next f.lookup.dnssec) led.told in
       record {
         question = r.question;
         replies = r.replies ++ led.reply ∷ [];
-        told = one-behind (WasTold past) r.replies led.reply r.told (tells (told_reply led.reply) led.told);
+        told = one-behind (WasTold past) r.replies led.reply r.told
+            (heard-told past led.reply f.lookup.next f.lookup.dnssec was);
+        in_turn = heard-next dnssec f.lookup f.heard r led.reply was;
         reached =
             led.led ∙ ap (after m) r.reached
             ∙ sym (fold-append (λ (k : LookupValue) (x : WireMessage). after x k) (begun r.question dnssec) ms
@@ -270,9 +301,10 @@ module _ (past : List Happening) where
       let again : heard m.message (after_all (begun r.question dnssec) ms) ≡ Whole kept =
       ap (heard m.message) (sym r.reached) ∙ heard-it in
       let whole = whole-behind (begun r.question dnssec) ms m.message kept r.lead again in
+      let was = tells (told_reply m f.lookup.next f.lookup.dnssec) said-so in
       record {
         replies = r.replies ++ m ∷ [];
-        told = one-behind (WasTold past) r.replies m r.told (tells (told_reply m) said-so);
+        told = one-behind (WasTold past) r.replies m r.told (heard-told past m f.lookup.next f.lookup.dnssec was);
         few = omega (
           arith,
           many,
@@ -281,6 +313,7 @@ module _ (past : List Happening) where
         );
         most_are_few = omega (arith, many, few-reached dnssec f.lookup f.heard r);
         made = by_servers r.question (r.replies ++ m ∷ []) kept how s
+            (heard-next dnssec f.lookup f.heard r m was)
             (ap (whole_of (begun r.question dnssec)) (messages-behind r.replies m) ∙ whole)
             (one-behind (λ (x : ToldReply). how.second ≤ x.second) r.replies m
             (since-all how.second f.heard m.second r.replies since r.since)
@@ -297,7 +330,7 @@ module _ (past : List Happening) where
       few-reached dnssec f.lookup f.heard r,
     );
     most_are_few = omega (arith, many, few-reached dnssec f.lookup f.heard r);
-    made = by_local_data r.question r.replies here now how s
+    made = by_local_data r.question r.replies here now how s r.in_turn
         (subst (λ (x : LookupValue). WasKnown past x.next here now) r.reached
         (tells (known_here f.lookup.next here now) known)) (since-now how.second f.heard now since)
         (since-all how.second f.heard now r.replies since r.since)
@@ -322,7 +355,7 @@ module _ (past : List Happening) where
           length-append r.replies last.replies,
         );
         most_are_few = omega (arith, by-kept.many, by-kept.few, count-reached dnssec f.lookup f.heard r);
-        made = by_kept_end r.question r.replies last.replies cached.reply now how s last.made lasts
+        made = by_kept_end r.question r.replies last.replies cached.reply now how s r.in_turn last.made lasts
             (since-now how.second f.heard now since) (since-all how.second f.heard now r.replies since r.since)
             (subst (λ (x : LookupValue). is_same_question (asked_octets x.next) (own_question cached.reply) ≡ true)
             r.reached by-kept.same)
@@ -333,18 +366,20 @@ module _ (past : List Happening) where
   -- a reply that ends a chain is the whole of its own look-up
   chain-end-so : {said : Source → Type 0} (e : ChainEndValue) → ((x : Source) → said x → Was x)
       → IsChainEnd said e → IsCounted (key_dnssec e.key) e.reply 1
-  chain-end-so e tells c = record {
-    replies = c.reply ∷ [];
-    told = (tells (told_reply c.reply) c.told, tt);
-    few = omega arith;
-    most_are_few = omega arith;
-    made = by_servers c.question (c.reply ∷ []) c.kept c.how e.reply
-        (ap (λ (h : Heard). told_by h [] None)
-        (ap (λ (k : Option KeptValue).
-        outcome_of k (next_question c.question c.reply.message.message) (begun c.question (key_dnssec e.key))) c.keeps
-        ∙ ap (λ (q : Option Query). outcome_of (Some c.kept) q (begun c.question (key_dnssec e.key))) c.ends))
-        (omega (arith, c.since), tt) c.stored;
-  }
+  chain-end-so e tells c =
+      let was = tells (told_reply c.reply c.question (key_dnssec e.key)) c.told in
+      record {
+        replies = c.reply ∷ [];
+        told = (heard-told past c.reply c.question (key_dnssec e.key) was, tt);
+        few = omega arith;
+        most_are_few = omega arith;
+        made = by_servers c.question (c.reply ∷ []) c.kept c.how e.reply (was, tt)
+            (ap (λ (h : Heard). told_by h [] None)
+            (ap (λ (k : Option KeptValue).
+            outcome_of k (next_question c.question c.reply.message.message) (begun c.question (key_dnssec e.key))) c.keeps
+            ∙ ap (λ (q : Option Query). outcome_of (Some c.kept) q (begun c.question (key_dnssec e.key))) c.ends))
+            (omega (arith, c.since), tt) c.stored;
+      }
 
   -- ---- all of it
 
@@ -573,6 +608,7 @@ module _ (past : List Happening) where
     question = r.question;
     replies = r.replies;
     told = r.told;
+    in_turn = r.in_turn;
     heard = r.reached;
     few = few-reached dnssec l noted r;
   }
@@ -585,13 +621,14 @@ known-later (happened event b a) past q here second was = inr was
 
 made-later : (h : Happening) (past : List Happening) (dnssec : Bool) (rs : Replies) (s : StoredValue)
     → IsMadeOf past dnssec rs s → IsMadeOf (h ∷ past) dnssec rs s
-made-later h past dnssec rs s (by_servers q rs' kept how s' whole since is) =
-    by_servers q rs kept how s whole since is
-made-later h past dnssec rs s (by_local_data q rs' here second how s' known early since is) =
-    by_local_data q rs here second how s
+made-later h past dnssec rs s (by_servers q rs' kept how s' in_turn whole since is) =
+    by_servers q rs kept how s (heard-before h past (begun q dnssec) rs in_turn) whole since is
+made-later h past dnssec rs s (by_local_data q rs' here second how s' in_turn known early since is) =
+    by_local_data q rs here second how s (heard-before h past (begun q dnssec) rs in_turn)
     (known-later h past (after_all (begun q dnssec) (messages rs)).next here second known) early since is
-made-later h past dnssec rs s (by_kept_end q first last end second how s' made lasts early since same is) =
-    by_kept_end q first last end second how s (made-later h past dnssec last end made) lasts early since same is
+made-later h past dnssec rs s (by_kept_end q first last end second how s' in_turn made lasts early since same is) =
+    by_kept_end q first last end second how s (heard-before h past (begun q dnssec) first in_turn)
+    (made-later h past dnssec last end made) lasts early since same is
 
 reached-later : (h : Happening) (past : List Happening) (dnssec : Bool) (l : LookupValue) (noted : Option ℕ)
     → IsReached past dnssec l noted → IsReached (h ∷ past) dnssec l noted
@@ -599,6 +636,7 @@ reached-later h past dnssec l noted r = record {
   question = r.question;
   replies = r.replies;
   told = told-before h past r.replies r.told;
+  in_turn = heard-before h past (begun r.question dnssec) r.replies r.in_turn;
   reached = r.reached;
   lead = r.lead;
   asked = r.asked;
@@ -661,7 +699,7 @@ kept-answers past (e ∷ es) all = (kept-answer past e.key e.value e.deadline al
 
 said-now : (event : ForwarderEvent) (b a : ForwarderValue) (past : List Happening) (x : Source) → IsSaid b x
     → Was (happened event b a ∷ past) x
-said-now event b a past (told_reply r) says = inl says
+said-now event b a past (told_reply r q dnssec) says = inl says
 said-now event b a past (known_here q here second) says = inl says
 
 event-sound : (past : List Happening) (event : ForwarderEvent) (b a : ForwarderValue)
@@ -705,43 +743,46 @@ short-ttls : (rs : List RecordValue) → AllByRecursion HasShortTtl (map (with_t
 short-ttls [] = tt
 short-ttls (r ∷ rs) = (refl, short-ttls rs)
 
-stale-so : (past : List Happening) (key : List ℕ) (cached : CachedValue) (deadline : ℕ) (o : OptionsValue) (now : ℕ)
-    (s : StoredValue) → IsKeptAnswer past key cached deadline → if_stale o now cached ≡ Some s
-    → IsStaleAnswer past (key_dnssec key) s o now
-stale-so past key cached deadline o now s kept is =
-    by (nat_lt cached.told_until now) refl (nat_le (now - cached.told_until) (stale_seconds o)) refl is
+-- What is kept past its end is stale, where all that is kept are answers.
+pub stale-so : (past : List Happening) (s : ForwarderValue) (key : List ℕ) (stored : StoredValue)
+    → AllKept (IsKeptAnswer past) s.cache.entries → stale_in s.cache key s.options (second_of s) ≡ Some stored
+    → IsStaleAnswer past (key_dnssec key) key stored s
+stale-so past s key stored all is = by (told key (second_of s) s.cache.entries) refl is
   where
-    by : (over : Bool) → nat_lt cached.told_until now ≡ over → (late : Bool)
-        → nat_le (now - cached.told_until) (stale_seconds o) ≡ late
-        → (if over && late then Some cached.reply else None) ≡ Some s
-        → IsStaleAnswer past (key_dnssec key) s o now
-    by false over late days h = absurd cc
-    by true over false days h = absurd cc
-    by true over true days h =
-        let same : cached.reply ≡ s = cc in
-        let before : cached.told_until < now = ltb-true cached.told_until now over in
-        let within : now - cached.told_until ≤ stale_seconds o =
-        leb-true (now - cached.told_until) (stale_seconds o) days in
+    late-so : (cached : CachedValue) → told key (second_of s) s.cache.entries ≡ Some cached → (deadline : ℕ)
+        → IsKeptAnswer past key cached deadline → (over : Bool) → nat_lt cached.told_until (second_of s) ≡ over
+        → (late : Bool) → nat_le (second_of s - cached.told_until) (stale_seconds s.options) ≡ late
+        → (if over && late then Some cached.reply else None) ≡ Some stored
+        → IsStaleAnswer past (key_dnssec key) key stored s
+    late-so cached found deadline kept false over late days h = absurd cc
+    late-so cached found deadline kept true over false days h = absurd cc
+    late-so cached found deadline kept true over true days h =
+        let same : cached.reply ≡ stored = cc in
+        let before : cached.told_until < second_of s = ltb-true cached.told_until (second_of s) over in
+        let within : second_of s - cached.told_until ≤ stale_seconds s.options =
+        leb-true (second_of s - cached.told_until) (stale_seconds s.options) days in
         record {
+          cached = cached;
+          found = found;
+          reply_is = same;
           answer = subst (IsAnswer past (key_dnssec key)) same kept.answer;
-          told_until = cached.told_until;
           lasts = subst (λ (x : StoredValue). LastsTo x cached.told_until) same kept.lasts;
           over = before;
           late = omega (arith, before, within);
           a_day = omega arith;
-          answers = short-ttls s.kept.answers;
-          authorities = short-ttls s.kept.authorities;
+          answers = short-ttls stored.kept.answers;
+          authorities = short-ttls stored.kept.authorities;
         }
+
+    by : (o : Option CachedValue) → told key (second_of s) s.cache.entries ≡ o
+        → option_and_then (if_stale s.options (second_of s)) o ≡ Some stored
+        → IsStaleAnswer past (key_dnssec key) key stored s
+    by None found h = absurd cc
+    by (Some cached) found h =
+        let kept = told-kept (IsKeptAnswer past) key (second_of s) s.cache.entries cached all found in
+        late-so cached found kept.0 kept.1 (nat_lt cached.told_until (second_of s)) refl
+        (nat_le (second_of s - cached.told_until) (stale_seconds s.options)) refl h
 
 pub stale_answers_are_of_replies : StaleAnswersAreOfReplies
 stale_answers_are_of_replies options local cache failures pool past s runs key stored is =
-    by (told key (second_of s) s.cache.entries) refl is
-  where
-    by : (o : Option CachedValue) → told key (second_of s) s.cache.entries ≡ o
-        → option_and_then (if_stale s.options (second_of s)) o ≡ Some stored
-        → IsStaleAnswer past (key_dnssec key) stored s.options (second_of s)
-    by None there h = absurd cc
-    by (Some cached) there h =
-        let kept = told-kept (IsKeptAnswer past) key (second_of s) s.cache.entries cached
-        (kept-answers past s.cache.entries (sound options local cache failures pool past s runs).kept) there in
-        stale-so past key cached kept.0 s.options (second_of s) stored kept.1 h
+    stale-so past s key stored (answers_are_of_replies options local cache failures pool past s runs).kept is

@@ -1,18 +1,18 @@
 -- What happens to the pool under a forwarder, and what it tells.
-use Rattle.std.proofs.Common.{◌≡◌, ◌∙◌, ◌==◌, ℕ, inl, inr, Bool, true, false, List, [], refl, sym, ap, subst}
+use Rattle.std.proofs.Common.{◌≡◌, ◌==◌, ℕ, inl, inr, Bool, true, false, List, [], refl, sym, ap, subst}
 use Rattle.std.specs.Prelude.{Option, None, Some, MatchOption, length, slice_get, if◌then◌else◌}
+use Rattle.std.specs.Option.{option_map}
 use Rattle.hickory_proto_core.specs.declared.query.Query.{Query}
 use Rattle.hickory_proto_wire.specs.Messages.{bit}
 use Rattle.hickory_proto_wire.specs.declared.wire_message.WireMessage.{WireMessage}
 use Rattle.hickory_resolver_model.specs.Options.{request_options_of}
 use Rattle.hickory_resolver_pool.specs.Laws.{PoolEvent, after_event, channel_fails, group_has, is_asked, octets_come, time_passes}
 use Rattle.hickory_resolver_pool.specs.Over.{OverValue}
-use Rattle.hickory_resolver_pool.specs.Pool.{PoolState}
-use Rattle.hickory_resolver_pool.specs.Pool as in_pool
-use Rattle.hickory_resolver_pool.specs.declared.pool.Action.{Action}
 use Rattle.hickory_resolver_pool.specs.declared.pool.Asked as pool_asked
 use Rattle.hickory_resolver_pool.specs.declared.pool.Asked.TheVariants as asked
 use Rattle.hickory_resolver_pool_theorems.specs.Runs.{octets_of}
+use Rattle.hickory_resolver_askers.specs.declared.asker.Asker.{Asker}
+use Rattle.hickory_resolver_tries.specs.declared.pool_question.PoolQuestion.{PoolQuestion}
 use Rattle.client_queries.specs.declared.query.Refusal.{Refusal}
 use Rattle.client_queries.specs.declared.query.Refusal.TheVariants as refusal
 use Rattle.client_queries.specs.declared.query.Verdict.{Verdict}
@@ -33,123 +33,128 @@ use Rattle.whole_lookups.specs.Lookups.{heard}
 use Rattle.whole_lookups.specs.declared.heard.Heard.{Heard}
 use Rattle.whole_lookups.specs.declared.heard.Heard.TheVariants as heard_as
 use Rattle.whole_replies.specs.Kept.{KeptValue}
-use Rattle.yimarotu_forwarder.specs.Fetches.{FetchValue, asked_for, fetch_at, has_request}
+use Rattle.yimarotu_forwarder.specs.Fetches.{FetchValue, PutsFetch, asked_for, fetch_at, has_request, with_waiting}
 use Rattle.yimarotu_forwarder.specs.Forwarders.{ChainEndValue, ForwarderValue, ReplyingValue, TellingValue, at_moment, second_of}
-use Rattle.yimarotu_forwarder.specs.Late.{TellsLate, TellsLateIf, TellsWaiting, first_due, is_told_late, late_hit, passed_over}
-use Rattle.yimarotu_forwarder.specs.LookingUp.{BeginsBy, BeginsLookup, BeginsOr, BeginsWith, IsPastBound, IsPastBoundBy, JoinsBy, JoinsFetch, JoinsLookup, JoinsOr, JoinsOrTold, LooksUp, after_ask, dnssec_of, may_begin, pool_question, pool_says}
+use Rattle.yimarotu_forwarder.specs.Late.{TellsLate, TellsLateIf, TellsWaiting, first_due, is_told_late, late_hit, passed_over, with_nobody}
+use Rattle.yimarotu_forwarder.specs.LookingUp.{BeginsBy, BeginsLookup, BeginsOr, BeginsWith, IsPastBound, IsPastBoundBy, JoinsBy, JoinsFetch, JoinsLookup, JoinsOr, JoinsOrTold, LooksUp, after_ask, dnssec_of, may_begin, new_fetch, pool_question, pool_says}
 use Rattle.client_limits.specs.Counts.{admits}
 use Rattle.yimarotu_forwarder.specs.NextQuestions.{kept_end, next_key, with_asked_where}
 use Rattle.yimarotu_forwarder.specs.Options.{may_ask}
-use Rattle.yimarotu_forwarder.specs.Prefetching.{AsksLone, BeginsLoneBy, DecidesLone, Prefetches, PrefetchesWhere, key_dnssec, key_query, key_unchecked, may_prefetch, without_prefetch}
+use Rattle.yimarotu_forwarder.specs.Prefetching.{AsksLone, BeginsLoneBy, BeginsLoneWith, DecidesLone, Prefetches, PrefetchesWhere, key_dnssec, key_query, key_unchecked, lone_fetch, may_prefetch, without_prefetch}
 use Rattle.yimarotu_forwarder.specs.Queries.{Answering, AnswersAs, AnswersAsked, AnswersBy, AnswersQuery, AnswersRequest, Decides, FailsAgain, Misses, Serves, ServesBy, TellsCounts, TellsLocalAlone, TellsOr, TellsOrLooksUp, TurnsAway, WithQuery, hit, query_in}
 use Rattle.yimarotu_forwarder.specs.Replying.{Fails, Refuses, TellsLocal}
 use Rattle.yimarotu_forwarder.specs.Stale.{stale_hit}
 use Rattle.yimarotu_forwarder.specs.Statistics.{counts_reply, is_loopback}
-use Rattle.yimarotu_forwarder.specs.Steps.{AsksBy, AsksFirst, AsksFor, AsksNext, AsksOr, AsksPool, EndsWith, ForwarderSteps, IsLetGo, PrefetchesFirst, RepliesFirst, RepliesNext, RepliesTo, StepsPool, StopsAsking, StopsAskingFirst, StopsPrefetchingFirst, StopsReplyingFirst, StopsStep, StopsTellingFirst, TellsFirst, TellsLateFirst, asks_with, has_turn, keeps_chain_end, keeps_end, lets_go, telling_of, with_stored, without_chain_end, without_failure}
-use Rattle.yimarotu_forwarder.specs.Telling.{EndsFetch, EndsForMemory, Finishes, Hears, StopsNext, StopsTelling, Tells, TellsAsker, TellsFetch, TellsKey, TellsNext, counts_asker, forgets_asker, heard_so, one_more, response_of, told_of}
+use Rattle.yimarotu_forwarder.specs.Steps.{AsksBy, AsksFirst, AsksFor, AsksNext, AsksOr, AsksPool, EndsWith, ForwarderSteps, IsLetGo, PrefetchesFirst, RepliesFirst, RepliesNext, RepliesTo, StepsPool, StopsAsking, StopsAskingFirst, StopsPrefetchingFirst, StopsReplyingFirst, StopsStep, StopsTellingFirst, TellsFirst, TellsLateFirst, asks_with, has_turn, keeps_chain_end, keeps_end, lets_go, with_stored, without_chain_end, without_failure}
+use Rattle.yimarotu_forwarder.specs.Telling.{EndsFetch, EndsForMemory, Finishes, Hears, StopsNext, StopsTelling, Tells, TellsAsker, TellsFetch, TellsKey, TellsNext, counts_asker, forgets_asker, heard_so, reason_of, response_of, told_of, whole_end}
 use Rattle.yimarotu_forwarder.specs.declared.answered.Answered.{Answered}
 use Rattle.yimarotu_forwarder.specs.declared.answered.Answered.TheVariants.{Dropped}
 use Rattle.yimarotu_forwarder.specs.declared.steps.ForwarderAction.{ForwarderAction}
 use Rattle.yimarotu_forwarder.specs.declared.steps.ForwarderAction.TheVariants as act
 use Rattle.yimarotu_forwarder_theorems.specs.Runs.{ForwarderEvent, Happens, octets_by, all_is_cleared, channel_fails as fails_channel, client_is_gone, is_stepped, local_data_is, name_is_flushed, octets_come as octets_came, options_are, query_comes, query_is_refused, servers_are, step_is_refused, time_passes as moment_comes}
+use Rattle.yimarotu_forwarder_theorems.proofs.Parts.{Asks, Goes, IsKept, Move, Moves, Near, Part, as_before, asker_ends, asker_goes, asker_leads, client_goes, counts_one, fetch_asks, fetch_begins, fetch_changes, more, move-one, near_by, octets_go, part, pool_hears, pool_steps, told_all, turn_ends, turn_passes}
 
--- ---- what happens to a pool
+-- ---- what it does with the pool
 
--- events, one after another, none of them octets that come
-pub data PoolGoes : PoolState → PoolState → Type 0 where
-  pool_stays : (p q : PoolState) → q ≡ p → PoolGoes p q
-  pool_goes : (p q : PoolState) (e : PoolEvent) → octets_of e ≡ [] → PoolGoes (after_event p e) q → PoolGoes p q
+near-same : (b a : ForwarderValue) → part a ≡ part b → Near b a
+near-same b a is = as_before (part b) (part a) is
 
-abbrev pool-of : ForwarderValue → PoolState
-pool-of s = s.pool
-
-abbrev telling-in : ForwarderValue → Option TellingValue
-telling-in s = s.telling
-
--- What is told is of the same transaction, or of none.
-abbrev pub TellsSame : Option TellingValue → Option TellingValue → Type 0
-TellsSame before after =
-    (t : TellingValue) → after ≡ Some t → (u : TellingValue) × (before ≡ Some u) × (t.over ≡ u.over)
-
-pub record Near (b a : ForwarderValue) : Type 0 where
-  pub goes : PoolGoes b.pool a.pool
-  pub tells : TellsSame b.telling a.telling
-
--- so it is, or octets came from a server, or a step of the pool was done; with the octets that came
-pub data Goes (b a : ForwarderValue) : List PoolEvent → Type 0 where
-  near_by : Near b a → Goes b a []
-  octets_go : (e : PoolEvent) → a.pool ≡ after_event b.pool e → TellsSame b.telling a.telling → Goes b a (octets_of e)
-  pool_steps : (did : Option Action) → in_pool.Steps b.pool did a.pool → a.telling ≡ telling_of did → Goes b a []
-
-tells-same : (b a : Option TellingValue) → a ≡ b → TellsSame b a
-tells-same b a same t is = (t, sym same ∙ is, refl)
-
-same : (b a : ForwarderValue) → a.telling ≡ b.telling → a.pool ≡ b.pool → Near b a
-same b a telling pool = record {
-  goes = pool_stays b.pool a.pool pool;
-  tells = tells-same b.telling a.telling telling;
-}
+near-one : (b a : ForwarderValue) → Move (part b) (part a) → Near b a
+near-one b a first = move-one (part b) (part a) first
 
 -- a question is asked of it first
 after-asking : (group : ℕ) (q : Query) (dnssec unchecked : Bool) (b a : ForwarderValue)
     → Near (after_ask group (pool_question q dnssec unchecked b) b) a → Near b a
-after-asking group q dnssec unchecked b a near = record {
-  goes =
-      pool_goes b.pool a.pool
-      (is_asked group q (request_options_of b.pool.options) (dnssec_of dnssec unchecked b) b.clock) refl near.goes;
-  tells = near.tells;
+after-asking group q dnssec unchecked b a near =
+    more (part b) (part (after_ask group (pool_question q dnssec unchecked b) b)) (part a)
+    (pool_hears (is_asked group q (request_options_of b.pool.options) (dnssec_of dnssec unchecked b) b.clock) refl tt
+    refl) near
+
+-- that which a fetch has to ask, and an asker is given
+asks-so : (group : ℕ) (f : FetchValue) (unchecked : Bool) (b : ForwarderValue) (x : Asker)
+    → pool_says group (pool_question f.lookup.next f.lookup.dnssec unchecked b) b ≡ asked.Asker x
+    → Asks f x.number b.pool (after_ask group (pool_question f.lookup.next f.lookup.dnssec unchecked b) b).pool
+asks-so group f unchecked b x says = record {
+  group = group;
+  options = request_options_of b.pool.options;
+  dnssec = dnssec_of f.lookup.dnssec unchecked b;
+  now = b.clock;
+  asker = x;
+  with_do = refl;
+  given = says;
+  number_is = refl;
+  after_is = refl;
 }
 
 -- ---- a query
 
+-- the question of a request
+abbrev question-of : Query → RequestValue → ForwarderValue → PoolQuestion
+question-of q r b = pool_question q (asks_dnssec r.query.edns) (bit 16 r.query.flags) b
+
 module _ {b0 : ForwarderValue} {answered : Answered} {a0 : ForwarderValue} {r0 : RequestValue}
     (x : AnswersRequest b0 answered a0 r0) where
   refuses : (r : RequestValue) (why : Refusal) (b a : ForwarderValue) → Refuses b r why x.became a → Near b a
-  refuses r why b a h = same b a (ap telling-in h.1) (ap pool-of h.1)
+  refuses r why b a h = near-same b a (ap part h.1)
 
   fails : (r : RequestValue) (why : FailureReason) (b a : ForwarderValue) → Fails b r why x.became a → Near b a
-  fails r why b a h = same b a (ap telling-in h.1) (ap pool-of h.1)
+  fails r why b a h = near-same b a (ap part h.1)
 
   past-bound : (r : RequestValue) (b a : ForwarderValue) → IsPastBound r b x.became a → Near b a
   past-bound r b a h = by r.client.is_stream h
     where
       by : (stream : Bool) → IsPastBoundBy stream r b x.became a → Near b a
       by true h = fails r reason.NotReady b a h
-      by false h = same b a (ap telling-in h.1) (ap pool-of h.1)
+      by false h = near-same b a (ap part h.1)
 
-  begins-by : (what : pool_asked.Asked) (q : Query) (r w : RequestValue) (b a : ForwarderValue)
-      → BeginsBy what q r w b x.became a → Near b a
-  begins-by (asked.Asker x) q r w b a h = same b a (ap telling-in h.others_are) (ap pool-of h.others_are)
-  begins-by asked.Overloaded q r w b a h = past-bound r b a h
-  begins-by asked.NoServers q r w b a h = fails r reason.NoReachableAuthority b a h
+  begins-with : (q : Query) (r w : RequestValue) (group : ℕ) (b a : ForwarderValue)
+      → fetch_at (key_of r) b.fetches ≡ None → BeginsWith q r (question-of q r b) group b x.became a w → Near b a
+  begins-with q r w group b a none h = by (pool_says group (question-of q r b) b) refl h
+    where
+      by : (what : pool_asked.Asked) → pool_says group (question-of q r b) b ≡ what
+          → BeginsBy what q r w (after_ask group (question-of q r b) b) x.became a → Near b a
+      by (asked.Asker k) says h =
+          let f = new_fetch q r w b.generation b.clock in
+          near-one b a (fetch_begins (key_of r) f k.number (after_ask group (question-of q r b) b).pool none
+          (asks-so group f (bit 16 r.query.flags) b k says) h.begins (ap part h.others_are))
+      by asked.Overloaded says h =
+          after-asking group q (asks_dnssec r.query.edns) (bit 16 r.query.flags) b a
+          (past-bound r (after_ask group (question-of q r b) b) a h)
+      by asked.NoServers says h =
+          after-asking group q (asks_dnssec r.query.edns) (bit 16 r.query.flags) b a
+          (fails r reason.NoReachableAuthority (after_ask group (question-of q r b) b) a h)
 
   begins-lookup : (q : Query) (r : RequestValue) (group : ℕ) (b a : ForwarderValue)
-      → BeginsLookup q r group b x.became a → Near b a
-  begins-lookup q r group b a h = by (may_begin r b) h
+      → fetch_at (key_of r) b.fetches ≡ None → BeginsLookup q r group b x.became a → Near b a
+  begins-lookup q r group b a none h = by (may_begin r b) h
     where
       waits : (w : Option RequestValue)
           → MatchOption w (Refuses b r refusal.FormErr x.became a)
-          (BeginsWith q r (pool_question q (asks_dnssec r.query.edns) (bit 16 r.query.flags) b) group b x.became a) → Near b a
+          (BeginsWith q r (question-of q r b) group b x.became a) → Near b a
       waits None h = refuses r refusal.FormErr b a h
-      waits (Some w) h =
-          let question = pool_question q (asks_dnssec r.query.edns) (bit 16 r.query.flags) b in
-          after-asking group q (asks_dnssec r.query.edns) (bit 16 r.query.flags) b a
-          (begins-by (pool_says group question b) q r w (after_ask group question b) a h)
+      waits (Some w) h = begins-with q r w group b a none h
 
       by : (room : Bool) → BeginsOr room q r group b x.became a → Near b a
       by false h = past-bound r b a h
       by true h = waits (waiting_of r) h
 
   told-octets : (octets : List ℕ) (b a : ForwarderValue) → a ≡ record b { reply = octets } → Near b a
-  told-octets octets b a h = same b a (ap telling-in h) (ap pool-of h)
+  told-octets octets b a h = near-same b a (ap part h)
 
-  joins-lookup : (r : RequestValue) (f : FetchValue) (b a : ForwarderValue) → JoinsLookup r b x.became a f
-      → Near b a
-  joins-lookup r f b a h = by (has_request r f) h
+  joins-lookup : (r : RequestValue) (f : FetchValue) (b a : ForwarderValue) → fetch_at (key_of r) b.fetches ≡ Some f
+      → JoinsLookup r b x.became a f → Near b a
+  joins-lookup r f b a there h = by (has_request r f) h
     where
       waits : (w : Option RequestValue) → MatchOption w (Refuses b r refusal.FormErr x.became a) (JoinsFetch r b x.became a) → Near b a
       waits None h = refuses r refusal.FormErr b a h
-      waits (Some w) h = same b a (ap telling-in h.others_are) (ap pool-of h.others_are)
+      waits (Some w) h =
+          near-one b a (fetch_changes (key_of r) f (with_waiting w f) there refl
+          (record {
+            puts = subst
+                (λ (o : Option FetchValue). PutsFetch (key_of r) (option_map (with_waiting w) o) b.fetches a.fetches)
+                there h.joins.puts;
+            others_stay = h.joins.others_stay;
+          }) (ap part h.others_are))
 
       if-room : (room : Bool) → JoinsOr room r b x.became a → Near b a
       if-room false h = past-bound r b a h
@@ -163,20 +168,21 @@ module _ {b0 : ForwarderValue} {answered : Answered} {a0 : ForwarderValue} {r0 :
       if-told (Some octets) is h = let m = rw is at h in told-octets octets b a m.1
 
       by : (there : Bool) → JoinsBy there f r b x.became a → Near b a
-      by true h = same b a (ap telling-in h.1) (ap pool-of h.1)
+      by true h = near-same b a (ap part h.1)
       by false h = if-told (late_hit f r b) refl h
 
   looks-up : (r : RequestValue) (q : Query) (group : ℕ) (b a : ForwarderValue) → LooksUp r q group b x.became a
       → Near b a
-  looks-up r q group b a h = by (fetch_at (key_of r) b.fetches) h
+  looks-up r q group b a h = by (fetch_at (key_of r) b.fetches) refl h
     where
-      by : (f : Option FetchValue) → MatchOption f (BeginsLookup q r group b x.became a) (JoinsLookup r b x.became a) → Near b a
-      by None h = begins-lookup q r group b a h
-      by (Some f) h = joins-lookup r f b a h
+      by : (f : Option FetchValue) → fetch_at (key_of r) b.fetches ≡ f
+          → MatchOption f (BeginsLookup q r group b x.became a) (JoinsLookup r b x.became a) → Near b a
+      by None none h = begins-lookup q r group b a none h
+      by (Some f) there h = joins-lookup r f b a there h
 
   tells-or : (Else : ℕ → Answering) (r : RequestValue) (q : Query) (found : Decision) (b a : ForwarderValue)
       → ((group : ℕ) → Else group b x.became a → Near b a) → TellsOr Else r q found b x.became a → Near b a
-  tells-or Else r q (decision.Answer kept) b a otherwise h = same b a (ap telling-in h.1) (ap pool-of h.1)
+  tells-or Else r q (decision.Answer kept) b a otherwise h = near-same b a (ap part h.1)
   tells-or Else r q (decision.Ask group) b a otherwise h = otherwise group h
 
   with-query : (Then : Query → Answering) (r : RequestValue) (b a : ForwarderValue)
@@ -215,11 +221,11 @@ module _ {b0 : ForwarderValue} {answered : Answered} {a0 : ForwarderValue} {r0 :
     where
       by : (t : Option (List ℕ)) → hit r b ≡ t → Near b a
       by None is = let m = rw is at h in misses r b a m
-      by (Some octets) is = let m = rw is at h in same b a (ap telling-in m.1) (ap pool-of m.1)
+      by (Some octets) is = let m = rw is at h in near-same b a (ap part m.1)
 
   tells-local : (r : RequestValue) (q : Query) (kept : KeptValue) (b a : ForwarderValue)
       → TellsLocal b r q kept x.became a → Near b a
-  tells-local r q kept b a h = same b a (ap telling-in h.1) (ap pool-of h.1)
+  tells-local r q kept b a h = near-same b a (ap part h.1)
 
   answers-as : (any : Bool) (r : RequestValue) (b a : ForwarderValue) → AnswersAs any r b x.became a → Near b a
   answers-as true r b a h =
@@ -232,7 +238,7 @@ module _ {b0 : ForwarderValue} {answered : Answered} {a0 : ForwarderValue} {r0 :
   serves any r b a h = by (bit 256 r.query.flags) (may_ask r.client.address b.options) h
     where
       away : (drop : Bool) → TurnsAway drop r b x.became a → Near b a
-      away true h = same b a (ap telling-in h.1) (ap pool-of h.1)
+      away true h = near-same b a (ap part h.1)
       away false h = refuses r refusal.Refused b a h
 
       by : (recursion may : Bool) → ServesBy recursion may (AnswersAs any r) r b x.became a → Near b a
@@ -258,7 +264,8 @@ module _ {b0 : ForwarderValue} {answered : Answered} {a0 : ForwarderValue} {r0 :
 
 -- time passed first
 ticked : (now : ℕ) (b a : ForwarderValue) → Near (at_moment now b) a → Near b a
-ticked now b a near = record { goes = pool_goes b.pool a.pool (time_passes now) refl near.goes; tells = near.tells }
+ticked now b a near =
+    more (part b) (part (at_moment now b)) (part a) (pool_hears (time_passes now) refl tt refl) near
 
 query-near : (c : Client) (octets : List ℕ) (now : ℕ) (answered : Answered) (b a : ForwarderValue)
     → AnswersQuery c octets now b answered a → Near b a
@@ -267,145 +274,164 @@ query-near c octets now answered b a h = ticked now b a (by (request_of c octets
     by : (r : Option RequestValue)
         → MatchOption r ((answered ≡ Dropped) × (a ≡ at_moment now b)) (AnswersRequest (at_moment now b) answered a)
         → Near (at_moment now b) a
-    by None h = same (at_moment now b) a (ap telling-in h.1) (ap pool-of h.1)
+    by None h = near-same (at_moment now b) a (ap part h.1)
     by (Some r) h =
-        let near = answers-by h r.query.verdict r (at_moment now b) h.uncounted h.answers in
-        record {
-          goes = subst (PoolGoes (at_moment now b).pool) (sym (ap pool-of h.counts)) near.goes;
-          tells = subst (TellsSame b.telling) (sym (ap telling-in h.counts)) near.tells;
-        }
+        subst (λ (c : Part). Moves (part (at_moment now b)) c) (sym (ap part h.counts))
+        (answers-by h r.query.verdict r (at_moment now b) h.uncounted h.answers)
 
 -- ---- a step
 
-ends : (key : List ℕ) (end : FetchEnd) (f : FetchValue) (b a : ForwarderValue) → Finishes key end f b a → Near b a
-ends key end f b a h = same b a (ap telling-in h.others_are) (ap pool-of h.others_are)
+-- the question behind a key
+abbrev lone-question : Query → List ℕ → ForwarderValue → PoolQuestion
+lone-question q key b = pool_question q (key_dnssec key) (key_unchecked key) b
 
-ends-fetch : (key : List ℕ) (end : FetchEnd) (f : FetchValue) (b a : ForwarderValue) → EndsFetch key end f b a → Near b a
-ends-fetch key end f b a h = same b a (ap telling-in h.others_are) (ap pool-of h.others_are)
+-- the first that has a question to ask is over
+ends-turn : (key : List ℕ) (end : FetchEnd) (f : FetchValue) (b a : ForwarderValue)
+    → slice_get b.fetches.to_ask 0 ≡ Some key → Finishes key end f (has_turn b) a → Near b a
+ends-turn key end f b a turn h = near-one b a (turn_ends key turn h.ends (ap part h.others_are))
 
-asks-by : (what : pool_asked.Asked) (key : List ℕ) (f : FetchValue) (b a : ForwarderValue) → AsksBy what key f b a
+-- it asks its question
+asks-pool : (group : ℕ) (key : List ℕ) (f : FetchValue) (b a : ForwarderValue)
+    → slice_get b.fetches.to_ask 0 ≡ Some key → fetch_at key b.fetches ≡ Some f
+    → AsksPool group key f (has_turn b) a → Near b a
+asks-pool group key f b a turn there h = by (pool_says group (asks_with f b) b) refl h
+  where
+    ends : (end : FetchEnd) → Finishes key end f (after_ask group (asks_with f b) (has_turn b)) a → Near b a
+    ends end h =
+        after-asking group f.lookup.next f.lookup.dnssec f.checking_disabled b a
+        (ends-turn key end f (after_ask group (asks_with f b) b) a turn h)
+
+    by : (what : pool_asked.Asked) → pool_says group (asks_with f b) b ≡ what
+        → AsksBy what key f (after_ask group (asks_with f b) (has_turn b)) a → Near b a
+    by (asked.Asker k) says h =
+        near-one b a (fetch_asks key f k.number (after_ask group (asks_with f b) b).pool turn there
+        (asks-so group f f.checking_disabled b k says) (ap part h))
+    by asked.Overloaded says h = ends (Failure reason.NotReady) h
+    by asked.NoServers says h = ends (Failure reason.NoReachableAuthority) h
+
+asks-or : (what : Decision) (key : List ℕ) (f : FetchValue) (b a : ForwarderValue)
+    → slice_get b.fetches.to_ask 0 ≡ Some key → fetch_at key b.fetches ≡ Some f → AsksOr what key f (has_turn b) a
     → Near b a
-asks-by (asked.Asker x) key f b a h = same b a (ap telling-in h) (ap pool-of h)
-asks-by asked.Overloaded key f b a h = ends key (Failure reason.NotReady) f b a h
-asks-by asked.NoServers key f b a h = ends key (Failure reason.NoReachableAuthority) f b a h
-
-asks-or : (what : Decision) (key : List ℕ) (f : FetchValue) (b a : ForwarderValue) → AsksOr what key f b a → Near b a
-asks-or (decision.Answer kept) key f b a h = same b a (ap telling-in h.others_are) (ap pool-of h.others_are)
-asks-or (decision.Ask group) key f b a h = by (kept_end f b) h
+asks-or (decision.Answer kept) key f b a turn there h =
+    near-one b a (turn_ends key turn h.ends (ap part h.others_are))
+asks-or (decision.Ask group) key f b a turn there h = by (kept_end f (has_turn b)) h
   where
     by : (end : Option (KeptValue × ℕ))
-        → MatchOption end (AsksPool group key f b a)
-        (λ end. EndsWith key end.0 end.1 f (with_asked_where (next_key f) b) a)
+        → MatchOption end (AsksPool group key f (has_turn b) a)
+        (λ end. EndsWith key end.0 end.1 f (with_asked_where (next_key f) (has_turn b)) a)
         → Near b a
-    by None h =
-        after-asking group f.lookup.next f.lookup.dnssec f.checking_disabled b a
-        (asks-by (pool_says group (asks_with f b) b) key f (after_ask group (asks_with f b) b) a h)
-    by (Some end) h = same b a (ap telling-in h.others_are) (ap pool-of h.others_are)
+    by None h = asks-pool group key f b a turn there h
+    by (Some end) h = near-one b a (turn_ends key turn h.ends (ap part h.others_are))
 
-asks-for : (key : List ℕ) (b a : ForwarderValue) → AsksFor b a key → Near b a
-asks-for key b a h = by (fetch_at key b.fetches) h
+asks-for : (key : List ℕ) (b a : ForwarderValue) → slice_get b.fetches.to_ask 0 ≡ Some key → AsksFor b a key → Near b a
+asks-for key b a turn h = by (fetch_at key b.fetches) refl h
   where
-    by : (f : Option FetchValue) → MatchOption f (a ≡ has_turn b) (AsksNext key (has_turn b) a) → Near b a
-    by None h = same b a (ap telling-in h) (ap pool-of h)
-    by (Some f) h =
-        let near = asks-or h.found key f (has_turn b) a h.asks in record { goes = near.goes; tells = near.tells }
+    by : (f : Option FetchValue) → fetch_at key b.fetches ≡ f
+        → MatchOption f (a ≡ has_turn b) (AsksNext key (has_turn b) a) → Near b a
+    by None none h = near-one b a (turn_passes (ap part h))
+    by (Some f) there h = asks-or h.found key f b a turn there h.asks
 
 -- one more asker is told of the same transaction
-hears : (over : OverValue) (key : List ℕ) (f g : FetchValue) (b a : ForwarderValue) → Hears (told_of over f) key g b a
-    → Near b a
-hears over key f g b a h = by (response_of over) refl
+hears : (over : OverValue) (asker : ℕ) (key : List ℕ) (f g : FetchValue) (b a : ForwarderValue)
+    → asked_for asker b.fetches ≡ Some key → Hears (told_of over f) key g (forgets_asker asker b) a → Near b a
+hears over asker key f g b a own h = by (response_of over) refl
   where
+    ends : (end : FetchEnd) → EndsFetch key end g (forgets_asker asker b) a → Near b a
+    ends end e = near-one b a (asker_ends asker key own e.ends (ap part e.others_are))
+
     by-heard : (m : WireMessage) → response_of over ≡ Some m → (what : Heard) → heard m f.lookup ≡ what → Near b a
     by-heard m is heard_as.Asks how =
-        let e = rw (is, how) at h in same b a (ap telling-in e.1) (ap pool-of e.1)
+        let e = rw (is, how) at h in near-one b a (asker_leads asker key g own e.0 (ap part e.1))
     by-heard m is (heard_as.Whole kept) how =
-        let e = rw (is, how) at h in same b a (ap telling-in e.others_are) (ap pool-of e.others_are)
-    by-heard m is heard_as.Fails how =
-        let e = rw (is, how) at h in same b a (ap telling-in e.others_are) (ap pool-of e.others_are)
+        let e = rw (is, how) at h in ends (whole_end kept g (forgets_asker asker b)) e
+    by-heard m is heard_as.Fails how = let e = rw (is, how) at h in ends (Failure reason.Other) e
 
     by : (o : Option WireMessage) → response_of over ≡ o → Near b a
-    by None is = let e = rw is at h in same b a (ap telling-in e.others_are) (ap pool-of e.others_are)
+    by None is = let e = rw is at h in ends (Failure (reason_of over.outcome)) e
     by (Some m) is = by-heard m is (heard m f.lookup) refl
 
 tells-asker : (over : OverValue) (asker : ℕ) (b a : ForwarderValue) → TellsAsker over asker b a → Near b a
-tells-asker over asker b a h = by (asked_for asker b.fetches) h
+tells-asker over asker b a h = by (asked_for asker b.fetches) refl h
   where
-    by-key : (key : List ℕ) (f : Option FetchValue)
+    by-key : (key : List ℕ) → asked_for asker b.fetches ≡ Some key → (f : Option FetchValue)
         → MatchOption f (a ≡ forgets_asker asker b) (TellsFetch over key (forgets_asker asker b) a) → Near b a
-    by-key key None h = same b a (ap telling-in h) (ap pool-of h)
-    by-key key (Some f) h =
-        let near = hears over key f (heard_so over (second_of b) f) (forgets_asker asker b) a h in
-        record { goes = near.goes; tells = near.tells }
+    by-key key own None h = near-one b a (asker_goes asker key own (ap part h))
+    by-key key own (Some f) h = hears over asker key f (heard_so over (second_of b) f) b a own h
 
-    by : (key : Option (List ℕ)) → MatchOption key (a ≡ b) (TellsKey over asker b a) → Near b a
-    by None h = same b a (ap telling-in h) (ap pool-of h)
-    by (Some key) h = by-key key (fetch_at key b.fetches) h
+    by : (key : Option (List ℕ)) → asked_for asker b.fetches ≡ key → MatchOption key (a ≡ b) (TellsKey over asker b a)
+        → Near b a
+    by None own h = near-same b a (ap part h)
+    by (Some key) own h = by-key key own (fetch_at key b.fetches) h
 
 -- from the asker that is counted
 counted : (t : TellingValue) (asker : ℕ) (b a : ForwarderValue) → b.telling ≡ Some t → Near (counts_asker t asker b) a
     → Near b a
-counted t asker b a is near = record {
-  goes = near.goes;
-  tells = λ u told.
-      let found = near.tells u told in
-      let one : one_more t ≡ found.0 = cc in
-      (t, is, found.2 ∙ sym (ap (λ (x : TellingValue). x.over) one));
-}
+counted t asker b a is near =
+    more (part b) (part (counts_asker t asker b)) (part a) (counts_one t is refl) near
 
 tells : (t : TellingValue) (b a : ForwarderValue) → b.telling ≡ Some t → Tells b a t → Near b a
 tells t b a is h = by (slice_get t.over.askers t.told) h
   where
-    none : a.telling ≡ None → TellsSame b.telling a.telling
-    none over u told = let clash : None ≡ Some u = sym over ∙ told in absurd cc
-
     by : (asker : Option ℕ) → MatchOption asker (a ≡ record b { telling = None }) (TellsNext t b a) → Near b a
-    by None h = record { goes = pool_stays b.pool a.pool (ap pool-of h); tells = none (ap telling-in h) }
+    by None h = near-one b a (told_all (ap part h))
     by (Some asker) h = counted t asker b a is (tells-asker t.over asker (counts_asker t asker b) a h)
 
-lone-by : (what : pool_asked.Asked) (q : Query) (key : List ℕ) (b a : ForwarderValue) → BeginsLoneBy what q key b a
-    → Near b a
-lone-by (asked.Asker x) q key b a h = same b a (ap telling-in h.others_are) (ap pool-of h.others_are)
-lone-by asked.Overloaded q key b a h = same b a (ap telling-in h) (ap pool-of h)
-lone-by asked.NoServers q key b a h = same b a (ap telling-in h) (ap pool-of h)
+-- a question is looked up for which nobody waits
+lone-with : (q : Query) (key : List ℕ) (group : ℕ) (b a : ForwarderValue) → fetch_at key b.fetches ≡ None
+    → BeginsLoneWith q key (lone-question q key b) group b a → Near b a
+lone-with q key group b a none h = by (pool_says group (lone-question q key b) b) refl h
+  where
+    none-begins : a ≡ after_ask group (lone-question q key b) b → Near b a
+    none-begins h =
+        after-asking group q (key_dnssec key) (key_unchecked key) b a
+        (near-same (after_ask group (lone-question q key b) b) a (ap part h))
 
-lone-or : (what : Decision) (q : Query) (key : List ℕ) (b a : ForwarderValue) → AsksLone what q key b a → Near b a
-lone-or (decision.Answer kept) q key b a h = same b a (ap telling-in h) (ap pool-of h)
-lone-or (decision.Ask group) q key b a h =
-    let question = pool_question q (key_dnssec key) (key_unchecked key) b in
-    after-asking group q (key_dnssec key) (key_unchecked key) b a
-    (lone-by (pool_says group question b) q key (after_ask group question b) a h)
+    by : (what : pool_asked.Asked) → pool_says group (lone-question q key b) b ≡ what
+        → BeginsLoneBy what q key (after_ask group (lone-question q key b) b) a → Near b a
+    by (asked.Asker k) says h =
+        let f = lone_fetch q key b.generation b.clock in
+        near-one b a (fetch_begins key f k.number (after_ask group (lone-question q key b) b).pool none
+        (asks-so group f (key_unchecked key) b k says) h.begins (ap part h.others_are))
+    by asked.Overloaded says h = none-begins h
+    by asked.NoServers says h = none-begins h
+
+lone-or : (what : Decision) (q : Query) (key : List ℕ) (b a : ForwarderValue) → fetch_at key b.fetches ≡ None
+    → AsksLone what q key b a → Near b a
+lone-or (decision.Answer kept) q key b a none h = near-same b a (ap part h)
+lone-or (decision.Ask group) q key b a none h = lone-with q key group b a none h
 
 prefetches : (key : List ℕ) (b a : ForwarderValue) → Prefetches b a key → Near b a
-prefetches key b a h =
-    let near = by (fetch_at key b.fetches) h in record { goes = near.goes; tells = near.tells }
+prefetches key b a h = by (fetch_at key b.fetches) refl h
   where
-    by-query : (q : Option Query)
-        → MatchOption q (a ≡ without_prefetch b) (DecidesLone key (without_prefetch b) a) → Near (without_prefetch b) a
-    by-query None h = same (without_prefetch b) a (ap telling-in h) (ap pool-of h)
-    by-query (Some q) h = lone-or h.found q key (without_prefetch b) a h.asks
+    by-query : (q : Option Query) → fetch_at key b.fetches ≡ None
+        → MatchOption q (a ≡ without_prefetch b) (DecidesLone key (without_prefetch b) a) → Near b a
+    by-query None none h = near-same b a (ap part h)
+    by-query (Some q) none h = lone-or h.found q key (without_prefetch b) a none h.asks
 
-    where-may : (may : Bool) → PrefetchesWhere may key (without_prefetch b) a → Near (without_prefetch b) a
-    where-may true h = by-query (key_query key) h
-    where-may false h = same (without_prefetch b) a (ap telling-in h) (ap pool-of h)
+    where-may : (may : Bool) → fetch_at key b.fetches ≡ None → PrefetchesWhere may key (without_prefetch b) a → Near b a
+    where-may true none h = by-query (key_query key) none h
+    where-may false none h = near-same b a (ap part h)
 
-    by : (f : Option FetchValue)
+    by : (f : Option FetchValue) → fetch_at key b.fetches ≡ f
         → MatchOption f
         (PrefetchesWhere (may_prefetch key (without_prefetch b)) key (without_prefetch b) a)
         (λ f. a ≡ without_prefetch b)
-        → Near (without_prefetch b) a
-    by None h = where-may (may_prefetch key (without_prefetch b)) h
-    by (Some f) h = same (without_prefetch b) a (ap telling-in h) (ap pool-of h)
+        → Near b a
+    by None none h = where-may (may_prefetch key (without_prefetch b)) none h
+    by (Some f) there h = near-same b a (ap part h)
 
 tells-late : (key : List ℕ) (b a : ForwarderValue) → TellsLate b a key → Near b a
 tells-late key b a h = by (is_told_late key b) h
   where
-    waiting : (f : Option FetchValue) → MatchOption f (a ≡ passed_over b) (TellsWaiting key (passed_over b) a) → Near b a
-    waiting None h = same b a (ap telling-in h) (ap pool-of h)
-    waiting (Some f) h = same b a (ap telling-in h.others_are) (ap pool-of h.others_are)
+    waiting : (f : Option FetchValue) → fetch_at key b.fetches ≡ f
+        → MatchOption f (a ≡ passed_over b) (TellsWaiting key (passed_over b) a) → Near b a
+    waiting None none h = near-same b a (ap part h)
+    waiting (Some f) there h =
+        near-one b a (fetch_changes key f (with_nobody f) there refl h.holds (ap part h.others_are))
 
     by : (told : Bool) → TellsLateIf told key (passed_over b) a → Near b a
-    by false h = same b a (ap telling-in h) (ap pool-of h)
-    by true h = waiting (fetch_at key b.fetches) h
+    by false h = near-same b a (ap part h)
+    by true h = waiting (fetch_at key b.fetches) refl h
 
 keeps-chain-end : (e : ChainEndValue) (b a : ForwarderValue) → a ≡ keeps_chain_end e (without_chain_end b) → Near b a
 keeps-chain-end e b a h = by (e.generation == b.generation) h
@@ -413,8 +439,8 @@ keeps-chain-end e b a h = by (e.generation == b.generation) h
     by : (own : Bool)
         → a ≡ (if own then without_failure e.key (with_stored e.key e.reply 1 (without_chain_end b)) else without_chain_end b)
         → Near b a
-    by true h = same b a (ap telling-in h) (ap pool-of h)
-    by false h = same b a (ap telling-in h) (ap pool-of h)
+    by true h = near-same b a (ap part h)
+    by false h = near-same b a (ap part h)
 
 let-go : (r : ReplyingValue) (b a : ForwarderValue) → a ≡ lets_go r b → Near b a
 let-go r b a h = by (r.generation == b.generation) r.end h
@@ -422,16 +448,16 @@ let-go r b a h = by (r.generation == b.generation) r.end h
     by : (own : Bool) (end : FetchEnd)
         → a ≡ (if own then keeps_end r.key end r.replies (record b { replying = None }) else record b { replying = None })
         → Near b a
-    by true (Reply s) h = same b a (ap telling-in h) (ap pool-of h)
-    by true (Failure why) h = same b a (ap telling-in h) (ap pool-of h)
-    by false end h = same b a (ap telling-in h) (ap pool-of h)
+    by true (Reply s) h = near-same b a (ap part h)
+    by true (Failure why) h = near-same b a (ap part h)
+    by false end h = near-same b a (ap part h)
 
 steps-goes : (action : Option ForwarderAction) (b a : ForwarderValue) → ForwarderSteps b action a → Goes b a []
 steps-goes action b a h = by-end b.chain_end h
   where
     by-late : (key : Option (List ℕ))
         → MatchOption key (StepsPool b action a) (λ key. (action ≡ Some act.Continue) × TellsLate b a key) → Goes b a []
-    by-late None h = pool_steps h.did h.steps (ap telling-in h.others_are)
+    by-late None h = pool_steps h.did h.steps (ap part h.others_are)
     by-late (Some key) h = near_by (tells-late key b a h.1)
 
     by-prefetch : (key : Option (List ℕ))
@@ -444,19 +470,19 @@ steps-goes action b a h = by-end b.chain_end h
     by-telling None is h = by-prefetch b.prefetch h
     by-telling (Some t) is h = near_by (tells t b a is h.1)
 
-    by-turn : (key : Option (List ℕ))
+    by-turn : (key : Option (List ℕ)) → slice_get b.fetches.to_ask 0 ≡ key
         → MatchOption key (TellsFirst b action a) (λ key. (action ≡ Some act.Continue) × AsksFor b a key) → Goes b a []
-    by-turn None h = by-telling b.telling refl h
-    by-turn (Some key) h = near_by (asks-for key b a h.1)
+    by-turn None turn h = by-telling b.telling refl h
+    by-turn (Some key) turn h = near_by (asks-for key b a turn h.1)
 
     replies : (r : ReplyingValue) (w : Option RequestValue)
         → MatchOption w ((action ≡ Some act.Continue) × (a ≡ lets_go r b)) (RepliesTo r b action a) → Goes b a []
     replies r None h = near_by (let-go r b a h.1)
-    replies r (Some w) h = near_by (same b a (ap telling-in h.1) (ap pool-of h.1))
+    replies r (Some w) h = near_by (near-same b a (ap part h.1))
 
     by-replying : (r : Option ReplyingValue)
         → MatchOption r (AsksFirst b action a) (RepliesNext b action a) → Goes b a []
-    by-replying None h = by-turn (slice_get b.fetches.to_ask 0) h
+    by-replying None h = by-turn (slice_get b.fetches.to_ask 0) refl h
     by-replying (Some r) h = replies r (slice_get r.waiting 0) h
 
     by-end : (e : Option ChainEndValue)
@@ -471,25 +497,25 @@ stops-near : (b a : ForwarderValue) → StopsStep b a → Near b a
 stops-near b a h = by-end b.chain_end h
   where
     next : (t : TellingValue) (asker : ℕ) → b.telling ≡ Some t → StopsNext t b a asker → Near b a
-    next t asker is h = by (asked_for asker b.fetches) h
+    next t asker is h = by (asked_for asker b.fetches) refl h
       where
-        by-key : (key : List ℕ) (f : Option FetchValue)
+        by-key : (key : List ℕ) → asked_for asker b.fetches ≡ Some key → (f : Option FetchValue)
             → MatchOption f ⊥ (λ f. EndsForMemory key (heard_so t.over (second_of b) f)
             (forgets_asker asker (counts_asker t asker b)) a) → Near b a
-        by-key key None h = absurd h
-        by-key key (Some f) h =
+        by-key key own None h = absurd h
+        by-key key own (Some f) h =
             counted t asker b a is
-            (same (counts_asker t asker b) a (ap telling-in h.others_are) (ap pool-of h.others_are))
+            (near-one (counts_asker t asker b) a (asker_ends asker key own h.ends (ap part h.others_are)))
 
-        by : (key : Option (List ℕ))
+        by : (key : Option (List ℕ)) → asked_for asker b.fetches ≡ key
             → MatchOption key ⊥ (λ key. MatchOption (fetch_at key b.fetches) ⊥
             (λ f. EndsForMemory key (heard_so t.over (second_of b) f)
             (forgets_asker asker (counts_asker t asker b)) a)) → Near b a
-        by None h = absurd h
-        by (Some key) h = by-key key (fetch_at key b.fetches) h
+        by None own h = absurd h
+        by (Some key) own h = by-key key own (fetch_at key b.fetches) h
 
     telling : (t : TellingValue) → b.telling ≡ Some t → StopsTelling b a t → Near b a
-    telling t is (inl h) = same b a (ap telling-in h) (ap pool-of h)
+    telling t is (inl h) = near-same b a (ap part h)
     telling t is (inr h) = by (slice_get t.over.askers t.told) h
       where
         by : (asker : Option ℕ) → MatchOption asker ⊥ (StopsNext t b a) → Near b a
@@ -497,59 +523,54 @@ stops-near b a h = by-end b.chain_end h
         by (Some asker) h = next t asker is h
 
     by-prefetch : (key : Option (List ℕ)) → MatchOption key (a ≡ b) (λ key. a ≡ without_prefetch b) → Near b a
-    by-prefetch None h = same b a (ap telling-in h) (ap pool-of h)
-    by-prefetch (Some key) h = same b a (ap telling-in h) (ap pool-of h)
+    by-prefetch None h = near-same b a (ap part h)
+    by-prefetch (Some key) h = near-same b a (ap part h)
 
     by-telling : (t : Option TellingValue) → b.telling ≡ t
         → MatchOption t (StopsPrefetchingFirst b a) (StopsTelling b a) → Near b a
     by-telling None is h = by-prefetch b.prefetch h
     by-telling (Some t) is h = telling t is h
 
-    fetch : (key : List ℕ) (f : Option FetchValue)
+    fetch : (key : List ℕ) → slice_get b.fetches.to_ask 0 ≡ Some key → (f : Option FetchValue)
         → MatchOption f ⊥ (λ f. EndsForMemory key f (has_turn b) a) → Near b a
-    fetch key None h = absurd h
-    fetch key (Some f) h = same b a (ap telling-in h.others_are) (ap pool-of h.others_are)
+    fetch key turn None h = absurd h
+    fetch key turn (Some f) h = ends-turn key (Failure reason.Other) f b a turn h
 
-    asking : (key : List ℕ) → StopsAsking b a key → Near b a
-    asking key (inl h) = same b a (ap telling-in h) (ap pool-of h)
-    asking key (inr h) = fetch key (fetch_at key b.fetches) h
+    asking : (key : List ℕ) → slice_get b.fetches.to_ask 0 ≡ Some key → StopsAsking b a key → Near b a
+    asking key turn (inl h) = near-same b a (ap part h)
+    asking key turn (inr h) = fetch key turn (fetch_at key b.fetches) h
 
-    by-turn : (key : Option (List ℕ)) → MatchOption key (StopsTellingFirst b a) (StopsAsking b a) → Near b a
-    by-turn None h = by-telling b.telling refl h
-    by-turn (Some key) h = asking key h
+    by-turn : (key : Option (List ℕ)) → slice_get b.fetches.to_ask 0 ≡ key
+        → MatchOption key (StopsTellingFirst b a) (StopsAsking b a) → Near b a
+    by-turn None turn h = by-telling b.telling refl h
+    by-turn (Some key) turn h = asking key turn h
 
     by-replying : (r : Option ReplyingValue) → MatchOption r (StopsAskingFirst b a) (IsLetGo b a) → Near b a
-    by-replying None h = by-turn (slice_get b.fetches.to_ask 0) h
-    by-replying (Some r) h = same b a (ap telling-in h.1) (ap pool-of h.1)
+    by-replying None h = by-turn (slice_get b.fetches.to_ask 0) refl h
+    by-replying (Some r) h = near-same b a (ap part h.1)
 
     by-end : (e : Option ChainEndValue) → MatchOption e (StopsReplyingFirst b a) (λ e. a ≡ without_chain_end b) → Near b a
     by-end None h = by-replying b.replying h
-    by-end (Some e) h = same b a (ap telling-in h) (ap pool-of h)
+    by-end (Some e) h = near-same b a (ap part h)
 
 -- ---- all that may happen
 
 -- an event of the pool alone
-by-event : (e : PoolEvent) → octets_of e ≡ [] → (b a : ForwarderValue) → a.pool ≡ after_event b.pool e
-    → a.telling ≡ b.telling → Near b a
-by-event e none b a pool telling = record {
-  goes = pool_goes b.pool a.pool e none (pool_stays (after_event b.pool e) a.pool pool);
-  tells = tells-same b.telling a.telling telling;
-}
+by-event : (e : PoolEvent) → octets_of e ≡ [] → IsKept e → (b a : ForwarderValue)
+    → part a ≡ record (part b) { pool = after_event b.pool e } → Goes b a []
+by-event e none kept b a is = near_by (near-one b a (pool_hears e none kept is))
 
 pub goes : (event : ForwarderEvent) (b a : ForwarderValue) → Happens event b a → Goes b a (octets_by event)
 goes (query_comes c octets now answered) b a h = near_by (query-near c octets now answered b a h)
-goes (query_is_refused now) b a h = near_by (by-event (time_passes now) refl b a (ap pool-of h) (ap telling-in h))
-goes (client_is_gone client) b a h = near_by (same b a (ap telling-in h) (ap pool-of h))
-goes (octets_came channel octets now) b a h =
-    octets_go (octets_come channel octets now) (ap pool-of h) (tells-same b.telling a.telling (ap telling-in h))
-goes (fails_channel failure now) b a h =
-    near_by (by-event (channel_fails failure now) refl b a (ap pool-of h) (ap telling-in h))
-goes (moment_comes now) b a h = near_by (by-event (time_passes now) refl b a (ap pool-of h) (ap telling-in h))
-goes (servers_are group servers) b a h =
-    near_by (by-event (group_has group servers) refl b a (ap pool-of h) (ap telling-in h))
-goes (local_data_is local) b a h = near_by (same b a (ap telling-in h) (ap pool-of h))
-goes (options_are options) b a h = near_by (same b a (ap telling-in h) (ap pool-of h))
-goes (name_is_flushed domain below) b a h = near_by (same b a (ap telling-in h) (ap pool-of h))
-goes all_is_cleared b a h = near_by (same b a (ap telling-in h) (ap pool-of h))
+goes (query_is_refused now) b a h = by-event (time_passes now) refl tt b a (ap part h)
+goes (client_is_gone client) b a h = near_by (near-one b a (client_goes client (ap part h)))
+goes (octets_came channel octets now) b a h = octets_go (octets_come channel octets now) tt (ap part h)
+goes (fails_channel failure now) b a h = by-event (channel_fails failure now) refl tt b a (ap part h)
+goes (moment_comes now) b a h = by-event (time_passes now) refl tt b a (ap part h)
+goes (servers_are group servers) b a h = by-event (group_has group servers) refl tt b a (ap part h)
+goes (local_data_is local) b a h = near_by (near-same b a (ap part h))
+goes (options_are options) b a h = near_by (near-same b a (ap part h))
+goes (name_is_flushed domain below) b a h = near_by (near-same b a (ap part h))
+goes all_is_cleared b a h = near_by (near-same b a (ap part h))
 goes (is_stepped action) b a h = steps-goes action b a h
 goes step_is_refused b a h = near_by (stops-near b a h)

@@ -159,16 +159,40 @@ keeping f b = record {
 }
 
 -- a reply that is told now
-abbrev pub told-now : WireMessage → ForwarderValue → ToldReply
-told-now m b = record { message = m; second = second_of b }
+abbrev pub told-now : OverValue → WireMessage → ForwarderValue → ToldReply
+told-now over m b = record { message = m; question = over.question; second = second_of b }
+
+-- the look-up for which an asker asks is told it
+abbrev pub SaysTo : (Source → Type 0) → OverValue → ℕ → ForwarderValue → Type 0
+SaysTo said over asker b =
+    (key : List ℕ) (f : FetchValue) (m : WireMessage) → asked_for asker b.fetches ≡ Some key
+    → fetch_at key b.fetches ≡ Some f → response_of over ≡ Some m
+    → said (told_reply (told-now over m b) f.lookup.next f.lookup.dnssec)
+
+-- the asker whose turn it is
+abbrev pub SaysNext : (Source → Type 0) → TellingValue → ForwarderValue → Type 0
+SaysNext said t b = (asker : ℕ) → slice_get t.over.askers t.told ≡ Some asker → SaysTo said t.over asker b
+
+pub says-next : (t : TellingValue) (b : ForwarderValue) → b.telling ≡ Some t → SaysNext (IsSaid b) t b
+says-next t b is asker turn key f m own there told = record {
+  telling = (t, is, told, refl, refl);
+  asker = asker;
+  has_turn = turn;
+  key = key;
+  asks_for = own;
+  fetch = f;
+  goes_on = there;
+  question = refl;
+  with_do = refl;
+}
 
 no-next : (f : FetchValue) (m : WireMessage) (o : Option Query) → next_question (led-to f) m.message ≡ o
     → is_none o ≡ true → next_question (led-to f) m.message ≡ None
 no-next f m None is none = is
 no-next f m (Some q) is none = absurd cc
 
-module _ {said : Source → Type 0} (b : ForwarderValue) (e : ChainEndValue) (f : FetchValue) (m : WireMessage)
-    (told-so : said (told_reply (told-now m b))) where
+module _ {said : Source → Type 0} (over : OverValue) (b : ForwarderValue) (e : ChainEndValue) (f : FetchValue)
+    (m : WireMessage) (told-so : said (told_reply (told-now over m b) f.lookup.next f.lookup.dnssec)) where
   with-key : (kept : KeptValue) → kept_of (led-to f) f.lookup.dnssec m ≡ Some kept
       → next_question (led-to f) m.message ≡ None → (key : Option (List ℕ)) → next_key f ≡ key → (end : FetchEnd)
       → end_so (led-to f) kept (keeping f b) ≡ end → chain_end_with key end f.generation ≡ Some e → IsChainEnd said e
@@ -179,9 +203,9 @@ module _ {said : Source → Type 0} (b : ForwarderValue) (e : ChainEndValue) (f 
       let same-key : key ≡ e.key = cc in
       let asks : key_dnssec e.key ≡ f.lookup.dnssec = next-dnssec f e.key (own ∙ ap Some same-key) in
       record {
-        reply = told-now m b;
-        told = told-so;
+        reply = told-now over m b;
         question = led-to f;
+        told = subst (λ (d : Bool). said (told_reply (told-now over m b) (led-to f) d)) (sym asks) told-so;
         kept = kept;
         keeps = ap (λ (d : Bool). kept_of (led-to f) d m) asks ∙ keeps;
         ends = ends;
@@ -208,32 +232,31 @@ module _ {said : Source → Type 0} (b : ForwarderValue) (e : ChainEndValue) (f 
       of-kept (kept_of (led-to f) f.lookup.dnssec m) refl (no-next f m (next_question (led-to f) m.message) refl none.1) h
 
 is-chain-end : {said : Source → Type 0} (over : OverValue) (asker : ℕ) (b : ForwarderValue) (e : ChainEndValue)
-    → ((m : WireMessage) → response_of over ≡ Some m → said (told_reply (told-now m b)))
-    → chain_end_for over asker b ≡ Some e
-    → IsChainEnd said e
+    → SaysTo said over asker b → chain_end_for over asker b ≡ Some e → IsChainEnd said e
 is-chain-end {said} over asker b e says h = by (response_of over) refl h
   where
-    by-fetch : (m : WireMessage) → said (told_reply (told-now m b)) → (o : Option FetchValue)
+    by-fetch : (m : WireMessage) → response_of over ≡ Some m → (key : List ℕ) → asked_for asker b.fetches ≡ Some key
+        → (o : Option FetchValue) → fetch_at key b.fetches ≡ o
         → option_and_then (λ f. chain_end_in f b m) o ≡ Some e → IsChainEnd said e
-    by-fetch m told None h = absurd cc
-    by-fetch m told (Some f) h = in-chain b e f m told (ends_chain f m) refl h
+    by-fetch m is key own None there h = absurd cc
+    by-fetch m is key own (Some f) there h =
+        in-chain over b e f m (says key f m own there is) (ends_chain f m) refl h
 
-    by-key : (m : WireMessage) → said (told_reply (told-now m b)) → (o : Option (List ℕ))
+    by-key : (m : WireMessage) → response_of over ≡ Some m → (o : Option (List ℕ)) → asked_for asker b.fetches ≡ o
         → option_and_then (λ key. option_and_then (λ f. chain_end_in f b m) (fetch_at key b.fetches)) o ≡ Some e
         → IsChainEnd said e
-    by-key m told None h = absurd cc
-    by-key m told (Some key) h = by-fetch m told (fetch_at key b.fetches) h
+    by-key m is None own h = absurd cc
+    by-key m is (Some key) own h = by-fetch m is key own (fetch_at key b.fetches) refl h
 
     by : (o : Option WireMessage) → response_of over ≡ o
         → option_and_then (λ m. option_and_then (λ key. option_and_then (λ f. chain_end_in f b m)
         (fetch_at key b.fetches)) (asked_for asker b.fetches)) o ≡ Some e → IsChainEnd said e
     by None is h = absurd cc
-    by (Some m) is h = by-key m (says m is) (asked_for asker b.fetches) h
+    by (Some m) is h = by-key m is (asked_for asker b.fetches) refl h
 
 -- it is noted, with the asker
 pub counts-asker : {said : Source → Type 0} (t : TellingValue) (asker : ℕ) (b : ForwarderValue)
-    → ((m : WireMessage) → response_of t.over ≡ Some m → said (told_reply (told-now m b)))
-    → Still said (core b) (core (counts_asker t asker b))
+    → SaysTo said t.over asker b → Still said (core b) (core (counts_asker t asker b))
 counts-asker {said} t asker b says = by (chain_end_for t.over asker b) refl
   where
     by : (o : Option ChainEndValue) → chain_end_for t.over asker b ≡ o
@@ -276,7 +299,8 @@ hears-so : {said : Source → Type 0}
     (over : OverValue) (key : List ℕ) (f g : FetchValue) (b a : ForwarderValue) → b.replying ≡ None
     → fetch_at key b.fetches ≡ Some f → IsSame f g → g.lookup ≡ lookup_after over f
     → g.heard ≡ heard_after (told_of over f) (second_of b) f.heard
-    → ((m : WireMessage) → response_of over ≡ Some m → said (told_reply (told-now m b)))
+    → ((m : WireMessage) → response_of over ≡ Some m
+    → said (told_reply (told-now over m b) f.lookup.next f.lookup.dnssec))
     → Hears (told_of over f) key g b a → Stills said (core b) (core a)
 unfolding as_told
 hears-so {said} over key f g b a none found same led since says h = by (response_of over) refl
@@ -291,7 +315,7 @@ hears-so {said} over key f g b a none found same led since says h = by (response
         still-one (core b) (core a)
         (is_heard (core b) (core a) key f g found same
         (record {
-          reply = told-now m b;
+          reply = told-now over m b;
           told = says m is;
           asks = how;
           led = led ∙ after-reply m is;
@@ -302,7 +326,7 @@ hears-so {said} over key f g b a none found same led since says h = by (response
         let ends = rw (is, how) at h in
         let first : g.heard ≡ f.heard = rw (is, how) at since in
         ends-fetch key (whole_end kept g b) f g b a none found same
-        (has_heard (told-now m b) kept (says m is) how
+        (has_heard (told-now over m b) kept (says m is) how
         (ap (λ (l : LookupValue). l.count) (led ∙ after-reply m is) ∙ whole-count m f.lookup kept how)
         (storing g b) (ap (λ (o : Option ℕ). earlier_second o (second_of b)) first) (ap (λ (q : Query). end_so q kept (storing g b)) same.asked))
         ends
@@ -318,33 +342,34 @@ hears-so {said} over key f g b a none found same led since says h = by (response
     by (Some m) is = by-heard m is (heard m f.lookup) refl
 
 tells-asker : {said : Source → Type 0} (over : OverValue) (asker : ℕ) (b a : ForwarderValue) → b.replying ≡ None
-    → ((m : WireMessage) → response_of over ≡ Some m → said (told_reply (told-now m b))) → TellsAsker over asker b a
-    → Stills said (core b) (core a)
-tells-asker {said} over asker b a none says h = by (asked_for asker b.fetches) h
+    → SaysTo said over asker b → TellsAsker over asker b a → Stills said (core b) (core a)
+tells-asker {said} over asker b a none says h = by (asked_for asker b.fetches) refl h
   where
-    by-key : (key : List ℕ) (o : Option FetchValue) → fetch_at key b.fetches ≡ o
+    by-key : (key : List ℕ) → asked_for asker b.fetches ≡ Some key → (o : Option FetchValue)
+        → fetch_at key b.fetches ≡ o
         → MatchOption o (a ≡ forgets_asker asker b) (TellsFetch over key (forgets_asker asker b) a)
         → Stills said (core b) (core a)
-    by-key key None is h = as_before (core b) (core a) (ap core h)
-    by-key key (Some f) is h =
+    by-key key own None is h = as_before (core b) (core a) (ap core h)
+    by-key key own (Some f) is h =
         hears-so over key f (heard_so over (second_of b) f) (forgets_asker asker b) a none is
-        (heard-same over (second_of b) f) refl refl says h
+        (heard-same over (second_of b) f) refl refl (λ m told. says key f m own is told) h
 
-    by : (o : Option (List ℕ)) → MatchOption o (a ≡ b) (TellsKey over asker b a) → Stills said (core b) (core a)
-    by None h = as_before (core b) (core a) (ap core h)
-    by (Some key) h = by-key key (fetch_at key b.fetches) refl h
+    by : (o : Option (List ℕ)) → asked_for asker b.fetches ≡ o → MatchOption o (a ≡ b) (TellsKey over asker b a)
+        → Stills said (core b) (core a)
+    by None own h = as_before (core b) (core a) (ap core h)
+    by (Some key) own h = by-key key own (fetch_at key b.fetches) refl h
 
-tells : {said : Source → Type 0} (t : TellingValue) (b a : ForwarderValue) → b.replying ≡ None
-    → ((m : WireMessage) → response_of t.over ≡ Some m → said (told_reply (told-now m b))) → Tells b a t
-    → Stills said (core b) (core a)
-tells {said} t b a none says h = by (slice_get t.over.askers t.told) h
+tells : {said : Source → Type 0} (t : TellingValue) (b a : ForwarderValue) → b.replying ≡ None → SaysNext said t b
+    → Tells b a t → Stills said (core b) (core a)
+tells {said} t b a none says h = by (slice_get t.over.askers t.told) refl h
   where
-    by : (o : Option ℕ) → MatchOption o (a ≡ record b { telling = None }) (TellsNext t b a) → Stills said (core b) (core a)
-    by None h = as_before (core b) (core a) (ap core h)
-    by (Some asker) h =
+    by : (o : Option ℕ) → slice_get t.over.askers t.told ≡ o
+        → MatchOption o (a ≡ record b { telling = None }) (TellsNext t b a) → Stills said (core b) (core a)
+    by None turn h = as_before (core b) (core a) (ap core h)
+    by (Some asker) turn h =
         let counted = counts_asker t asker b in
-        more (core b) (core counted) (core a) (counts-asker t asker b says)
-        (tells-asker t.over asker counted a none says h)
+        more (core b) (core counted) (core a) (counts-asker t asker b (says asker turn))
+        (tells-asker t.over asker counted a none (says asker turn) h)
 
 -- ---- a fetch asks its question
 
@@ -682,7 +707,7 @@ tells-first b a action none h = by b.telling refl h
         → MatchOption o (PrefetchesFirst b action a) (λ t. (action ≡ Some act.Continue) × Tells b a t)
         → StepMoves b a action
     by None is h = prefetches-first b a action none h
-    by (Some t) is h = step_stays (continues action h.0) (tells t b a none (λ m told. (t, is, told, refl)) h.1)
+    by (Some t) is h = step_stays (continues action h.0) (tells t b a none (says-next t b is) h.1)
 
 asks-first : (b a : ForwarderValue) (action : Option ForwarderAction) → b.replying ≡ None → AsksFirst b action a
     → StepMoves b a action

@@ -1,16 +1,15 @@
 -- What a step leaves that is refused for memory.
 use Rattle.std.proofs.Common.{◌≡◌, ℕ, inl, inr, List, refl, ap}
 use Rattle.std.specs.Prelude.{Option, None, Some, MatchOption, slice_get}
-use Rattle.hickory_proto_wire.specs.declared.wire_message.WireMessage.{WireMessage}
 use Rattle.client_requests.specs.declared.fetch_end.FetchEnd.TheVariants.{Failure}
 use Rattle.failure_replies.specs.declared.failure.FailureReason.TheVariants as reason
 use Rattle.yimarotu_forwarder.specs.Fetches.{FetchValue, asked_for, fetch_at}
 use Rattle.yimarotu_forwarder.specs.Forwarders.{ChainEndValue, ForwarderValue, ReplyingValue, TellingValue, second_of}
 use Rattle.yimarotu_forwarder.specs.Steps.{IsLetGo, StopsAsking, StopsAskingFirst, StopsPrefetchingFirst, StopsReplyingFirst, StopsStep, StopsTellingFirst, has_turn, without_chain_end}
 use Rattle.yimarotu_forwarder.specs.Prefetching.{without_prefetch}
-use Rattle.yimarotu_forwarder.specs.Telling.{EndsForMemory, StopsNext, StopsTelling, counts_asker, forgets_asker, heard_so, response_of}
-use Rattle.yimarotu_forwarder_theorems.proofs.Cores.{IsSaid, IsSame, Source, Stills, as_before, core, has_failed, is_let_go, more, no_chain_ends, still-one, told_reply}
-use Rattle.yimarotu_forwarder_theorems.proofs.Stepping.{counts-asker, finishes, heard-same, none-first, same-fetch, told-now}
+use Rattle.yimarotu_forwarder.specs.Telling.{EndsForMemory, StopsNext, StopsTelling, counts_asker, forgets_asker, heard_so}
+use Rattle.yimarotu_forwarder_theorems.proofs.Cores.{IsSaid, IsSame, Source, Stills, as_before, core, has_failed, is_let_go, more, no_chain_ends, still-one}
+use Rattle.yimarotu_forwarder_theorems.proofs.Stepping.{SaysNext, SaysTo, counts-asker, finishes, heard-same, none-first, same-fetch, says-next}
 
 ends-for-memory : {said : Source → Type 0}
     (key : List ℕ) (f g : FetchValue) (b a : ForwarderValue) → b.replying ≡ None
@@ -20,9 +19,8 @@ ends-for-memory {said} key f g b a none found same h =
     (finishes key (Failure reason.Other) f g b a none found same (has_failed reason.Other refl) h)
 
 stops-next : {said : Source → Type 0}
-    (t : TellingValue) (asker : ℕ) (b a : ForwarderValue) → b.replying ≡ None
-    → ((m : WireMessage) → response_of t.over ≡ Some m → said (told_reply (told-now m b))) → StopsNext t b a asker
-    → Stills said (core b) (core a)
+    (t : TellingValue) (asker : ℕ) (b a : ForwarderValue) → b.replying ≡ None → SaysTo said t.over asker b
+    → StopsNext t b a asker → Stills said (core b) (core a)
 stops-next {said} t asker b a none says h =
     more (core b) (core (counts_asker t asker b)) (core a) (counts-asker t asker b says)
     (by (asked_for asker b.fetches) h)
@@ -45,15 +43,15 @@ stops-next {said} t asker b a none says h =
     by (Some key) h = by-key key (fetch_at key b.fetches) refl h
 
 stops-telling : {said : Source → Type 0}
-    (t : TellingValue) (b a : ForwarderValue) → b.replying ≡ None
-    → ((m : WireMessage) → response_of t.over ≡ Some m → said (told_reply (told-now m b))) → StopsTelling b a t
+    (t : TellingValue) (b a : ForwarderValue) → b.replying ≡ None → SaysNext said t b → StopsTelling b a t
     → Stills said (core b) (core a)
 stops-telling {said} t b a none says (inl h) = as_before (core b) (core a) (ap core h)
-stops-telling {said} t b a none says (inr h) = by (slice_get t.over.askers t.told) h
+stops-telling {said} t b a none says (inr h) = by (slice_get t.over.askers t.told) refl h
   where
-    by : (o : Option ℕ) → MatchOption o ⊥ (StopsNext t b a) → Stills said (core b) (core a)
-    by None h = absurd h
-    by (Some asker) h = stops-next t asker b a none says h
+    by : (o : Option ℕ) → slice_get t.over.askers t.told ≡ o → MatchOption o ⊥ (StopsNext t b a)
+        → Stills said (core b) (core a)
+    by None turn h = absurd h
+    by (Some asker) turn h = stops-next t asker b a none (says asker turn) h
 
 stops-prefetching : {said : Source → Type 0}
     (b a : ForwarderValue) → StopsPrefetchingFirst b a → Stills said (core b) (core a)
@@ -70,7 +68,7 @@ stops-telling-first b a none h = by b.telling refl h
     by : (o : Option TellingValue) → b.telling ≡ o → MatchOption o (StopsPrefetchingFirst b a) (StopsTelling b a)
         → Stills (IsSaid b) (core b) (core a)
     by None is h = stops-prefetching b a h
-    by (Some t) is h = stops-telling t b a none (λ m told. (t, is, told, refl)) h
+    by (Some t) is h = stops-telling t b a none (says-next t b is) h
 
 stops-asking : (key : List ℕ) (b a : ForwarderValue) → b.replying ≡ None → StopsAsking b a key
     → Stills (IsSaid b) (core b) (core a)

@@ -1,6 +1,5 @@
 -- Each reply that a forwarder makes an answer of is octets that came from a server and were believed.
 use Rattle.std.specs.Prelude.{◌≡◌, ℕ, List, Some}
-use Rattle.hickory_proto_wire.specs.declared.wire_message.WireMessage.{WireMessage}
 use Rattle.hickory_resolver_config.specs.ResolverConfig.{OptionsValue as PoolOptions}
 use Rattle.hickory_resolver_flights.specs.Flights.{KeptValue}
 use Rattle.hickory_resolver_pool.specs.Over.{OverValue}
@@ -16,14 +15,15 @@ use Rattle.yimarotu_forwarder.specs.Options.{OptionsValue}
 use Rattle.yimarotu_forwarder_theorems.specs.Lookups.{ToldReply, WasTold}
 use Rattle.yimarotu_forwarder_theorems.specs.Runs.{Happening, Runs, octets_of_servers}
 
--- Among this, which happened to the pool, it said of a transaction that it is over, with a reply that spells this
--- message: octets that came on the channel on which the question was sent, and were believed as a reply to it.
-pub record WasBelieved (start : PoolState) (past : List pool.Happening) (m : WireMessage) : Type 0 where
+-- Among this, which happened to the pool, it said of a transaction for this question that it is over, with a reply that
+-- spells this message: octets that came on the channel on which the question was sent, and were believed as its reply.
+pub record WasBelieved (start : PoolState) (past : List pool.Happening) (r : ToldReply) : Type 0 where
   pub over : OverValue
   pub was_over : WasOver start past over
+  pub question : over.question ≡ r.question
   pub reply : KeptValue
   pub believed : IsBelievedReply was_over.earlier over.transaction over.question over.outcome reply
-  pub spells : reply.message ≡ Some m
+  pub spells : reply.message ≡ Some r.message
 
 -- The pool of a forwarder is one as the pool's own laws have it. The octets that came to it are those that came to the
 -- forwarder from servers, and each reply that it told was believed.
@@ -31,7 +31,7 @@ pub record StandsOnPool (start : PoolState) (past : List Happening) (s : Forward
   pub pool_past : List pool.Happening
   pub runs : pool.Runs start pool_past s.pool
   pub came : pool.octets_in pool_past ≡ octets_of_servers past
-  pub believed : (r : ToldReply) → WasTold past r → WasBelieved start pool_past r.message
+  pub believed : (r : ToldReply) → WasTold past r → WasBelieved start pool_past r
 
 abbrev pub RepliesWereBelieved : Type 0
 RepliesWereBelieved =

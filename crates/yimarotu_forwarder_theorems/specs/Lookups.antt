@@ -1,14 +1,15 @@
 -- What look-ups come to, and what is kept of it.
-use Rattle.std.specs.Prelude.{◌≡◌, ◌⊎◌, ℕ, ◌+◌, ◌<◌, ◌≤◌, Bool, true, List, [], ◌∷◌, ◌++◌, length, map, Some}
+use Rattle.std.specs.Prelude.{◌≡◌, ◌⊎◌, ℕ, ◌+◌, ◌<◌, ◌≤◌, Bool, true, List, [], ◌∷◌, ◌++◌, length, map, slice_get, Some}
 use Rattle.std.specs.List.{AllByRecursion}
 use Rattle.hickory_proto_core.specs.Records.{RecordValue}
 use Rattle.hickory_proto_core.specs.declared.query.Query.{Query}
 use Rattle.hickory_proto_names.specs.declared.ip.IpNet.{IpNet}
 use Rattle.hickory_proto_wire.specs.declared.wire_message.WireMessage.{WireMessage}
 use Rattle.hickory_resolver_pool.specs.Pool.{PoolState}
+use Rattle.hickory_resolver_tries.specs.declared.pool_question.PoolQuestion.{PoolQuestion}
 use Rattle.client_requests.specs.declared.fetch_end.FetchEnd.TheVariants.{Reply}
 use Rattle.local_answers.specs.declared.local_data.Decision.TheVariants.{Answer}
-use Rattle.second_chance_cache.specs.SecondChance.{Entry}
+use Rattle.second_chance_cache.specs.SecondChance.{Entry, told}
 use Rattle.second_chance_cache.specs.declared.bounds.CacheBounds.{CacheBounds}
 use Rattle.stored_replies.specs.Key.{is_same_question}
 use Rattle.stored_replies.specs.Stale.{stale_of}
@@ -17,11 +18,11 @@ use Rattle.stored_replies.specs.Told.{own_question}
 use Rattle.whole_lookups.specs.Capped.{capped}
 use Rattle.whole_lookups.specs.Denied.{without_denied}
 use Rattle.whole_lookups.specs.Laws.{after_all, whole_of}
-use Rattle.whole_lookups.specs.Lookups.{LookupValue, begun, whole_with}
+use Rattle.whole_lookups.specs.Lookups.{LookupValue, after, begun, whole_with}
 use Rattle.whole_lookups.specs.declared.choices.TheConstants.{MOST_QUESTIONS}
 use Rattle.whole_replies.specs.Kept.{KeptValue, aged}
 use Rattle.yimarotu_forwarder.specs.Cached.{CachedValue}
-use Rattle.yimarotu_forwarder.specs.Fetches.{FetchValue, fetch_at}
+use Rattle.yimarotu_forwarder.specs.Fetches.{FetchValue, asked_for, fetch_at}
 use Rattle.yimarotu_forwarder.specs.Forwarders.{ChainEndValue, ForwarderValue, ReplyingValue, TellingValue, new_forwarder, second_of}
 use Rattle.yimarotu_forwarder.specs.Local.{IsDecided, LocalValue}
 use Rattle.yimarotu_forwarder.specs.NextQuestions.{asked_octets}
@@ -34,19 +35,42 @@ use Rattle.yimarotu_forwarder_theorems.specs.Runs.{Happening, Runs, happened}
 
 -- ---- replies that were told
 
--- a reply, and the second at which it was told
+-- a reply, the question of the transaction that came to it, and the second at which it was told
 pub record ToldReply : Type 0 where
   pub message : WireMessage
+  pub question : PoolQuestion
   pub second : ℕ
 
 -- a transaction is told that came to this reply
 abbrev pub IsTelling : ForwarderValue → ToldReply → Type 0
 IsTelling s r =
-    (t : TellingValue) × (s.telling ≡ Some t) × (response_of t.over ≡ Some r.message) × (r.second ≡ second_of s)
+    (t : TellingValue) × (s.telling ≡ Some t) × (response_of t.over ≡ Some r.message)
+    × (r.question ≡ t.over.question) × (r.second ≡ second_of s)
 
 abbrev pub WasTold : List Happening → ToldReply → Type 0
 WasTold [] r = ⊥
 WasTold (happened event before after ∷ past) r = IsTelling before r ⊎ WasTold past r
+
+-- the look-up that is told so has to ask this question, with DO or without
+pub record IsHeard (s : ForwarderValue) (r : ToldReply) (q : Query) (dnssec : Bool) : Type 0 where
+  pub telling : IsTelling s r
+  pub asker : ℕ
+  pub has_turn : slice_get telling.0.over.askers telling.0.told ≡ Some asker
+  pub key : List ℕ
+  pub asks_for : asked_for asker s.fetches ≡ Some key
+  pub fetch : FetchValue
+  pub goes_on : fetch_at key s.fetches ≡ Some fetch
+  pub question : fetch.lookup.next ≡ q
+  pub with_do : fetch.lookup.dnssec ≡ dnssec
+
+abbrev pub WasHeard : List Happening → ToldReply → Query → Bool → Type 0
+WasHeard [] r q dnssec = ⊥
+WasHeard (happened event before after ∷ past) r q dnssec = IsHeard before r q dnssec ⊎ WasHeard past r q dnssec
+
+-- Each was told to a look-up that had to ask what this one has to ask once it heard those before.
+abbrev pub AreHeard : List Happening → LookupValue → List ToldReply → Type 0
+AreHeard past l [] = Unit {0}
+AreHeard past l (r ∷ rs) = WasHeard past r l.next l.dnssec × AreHeard past (after r.message l) rs
 
 abbrev pub messages : List ToldReply → List WireMessage
 messages replies = map (λ r. r.message) replies
@@ -68,11 +92,13 @@ WasKnown (happened event before after ∷ past) q here second =
 
 -- ---- what they make
 
--- how far a look-up of this question is, with DO or without: it heard these replies, and asked few questions
+-- how far a look-up of this question is, with DO or without: it heard these replies, each to what it had to ask then,
+-- and asked few questions
 pub record HeardReplies (past : List Happening) (dnssec : Bool) (l : LookupValue) : Type 0 where
   pub question : Query
   pub replies : List ToldReply
   pub told : AllByRecursion (WasTold past) replies
+  pub in_turn : AreHeard past (begun question dnssec) replies
   pub heard : l ≡ after_all (begun question dnssec) (messages replies)
   pub few : l.count ≤ MOST_QUESTIONS
 
@@ -98,15 +124,18 @@ stored_so q kept how =
 -- whole ages from a second on at which none of them was told yet: so no record outlives what was received.
 pub data IsMadeOf (past : List Happening) (dnssec : Bool) : List ToldReply → StoredValue → Type 0 where
   by_servers : (q : Query) (replies : List ToldReply) (kept : KeptValue) (how : Storing) (s : StoredValue)
+      → AreHeard past (begun q dnssec) replies
       → whole_of (begun q dnssec) (messages replies) ≡ Some kept → AreSince how.second replies
       → s ≡ stored_so q kept how → IsMadeOf past dnssec replies s
   by_local_data : (q : Query) (replies : List ToldReply) (here : KeptValue) (second : ℕ) (how : Storing)
-      (s : StoredValue) → WasKnown past (after_all (begun q dnssec) (messages replies)).next here second
+      (s : StoredValue) → AreHeard past (begun q dnssec) replies
+      → WasKnown past (after_all (begun q dnssec) (messages replies)).next here second
       → how.second ≤ second → AreSince how.second replies
       → s ≡ stored_so q (whole_with here (after_all (begun q dnssec) (messages replies))) how
       → IsMadeOf past dnssec replies s
   by_kept_end : (q : Query) (first last : List ToldReply) (end : StoredValue) (second : ℕ) (how : Storing)
-      (s : StoredValue) → IsMadeOf past dnssec last end → LastsTo end second → how.second ≤ second
+      (s : StoredValue) → AreHeard past (begun q dnssec) first
+      → IsMadeOf past dnssec last end → LastsTo end second → how.second ≤ second
       → AreSince how.second first
       → is_same_question (asked_octets (after_all (begun q dnssec) (messages first)).next) (own_question end) ≡ true
       → s ≡ stored_so q
@@ -150,18 +179,20 @@ AnswersAreOfReplies =
 abbrev pub HasShortTtl : RecordValue → Type 0
 HasShortTtl r = r.ttl ≡ 30
 
--- It was an answer up to a second that is over, by no more seconds than the options say, and a day at the most. What is
--- told in place of it has TTLs of 30 seconds (RFC 8767, section 4).
-pub record IsStaleAnswer (past : List Happening) (dnssec : Bool) (s : StoredValue) (options : OptionsValue) (now : ℕ)
-    : Type 0 where
-  pub answer : IsAnswer past dnssec s
-  pub told_until : ℕ
-  pub lasts : LastsTo s told_until
-  pub over : told_until < now
-  pub late : now ≤ told_until + stale_seconds options
-  pub a_day : stale_seconds options ≤ 86400
-  pub answers : AllByRecursion HasShortTtl (stale_of s).kept.answers
-  pub authorities : AllByRecursion HasShortTtl (stale_of s).kept.authorities
+-- It is kept under this key, and was an answer up to a second that is over, by no more seconds than the options say and
+-- a day at the most. What is told in place of it has TTLs of 30 seconds (RFC 8767, section 4).
+pub record IsStaleAnswer (past : List Happening) (dnssec : Bool) (key : List ℕ) (stored : StoredValue)
+    (s : ForwarderValue) : Type 0 where
+  pub cached : CachedValue
+  pub found : told key (second_of s) s.cache.entries ≡ Some cached
+  pub reply_is : cached.reply ≡ stored
+  pub answer : IsAnswer past dnssec stored
+  pub lasts : LastsTo stored cached.told_until
+  pub over : cached.told_until < second_of s
+  pub late : second_of s ≤ cached.told_until + stale_seconds s.options
+  pub a_day : stale_seconds s.options ≤ 86400
+  pub answers : AllByRecursion HasShortTtl (stale_of stored).kept.answers
+  pub authorities : AllByRecursion HasShortTtl (stale_of stored).kept.authorities
 
 -- What is told where a look-up failed, if not that.
 abbrev pub StaleAnswersAreOfReplies : Type 0
@@ -169,4 +200,4 @@ StaleAnswersAreOfReplies =
     (options : OptionsValue) (local : LocalValue) (cache failures : CacheBounds) (pool : PoolState)
     → (past : List Happening) (s : ForwarderValue) → Runs (new_forwarder options local cache failures pool) past s
     → (key : List ℕ) (stored : StoredValue) → stale_in s.cache key s.options (second_of s) ≡ Some stored
-    → IsStaleAnswer past (key_dnssec key) stored s.options (second_of s)
+    → IsStaleAnswer past (key_dnssec key) key stored s

@@ -2,8 +2,10 @@
 ghost use Rattle.yimarotu_forwarder_theorems.specs.Believed.{RepliesWereBelieved};
 ghost use Rattle.yimarotu_forwarder_theorems.specs.Bounds.{BoundsAreKept, WhoWaitsIsCounted};
 ghost use Rattle.yimarotu_forwarder_theorems.specs.Lookups.{AnswersAreOfReplies, StaleAnswersAreOfReplies};
+ghost use Rattle.yimarotu_forwarder_theorems.specs.Questions.{EachReplyIsToItsQuestion};
 ghost use Rattle.yimarotu_forwarder_theorems.specs.Replies.{EachIsRepliedToOnce, EachReplyIsToItsRequest, QuestionsHaveQueues};
 ghost use Rattle.yimarotu_forwarder_theorems.specs.ReplyOctets.{RepliesAtOnceAreOwn};
+ghost use Rattle.yimarotu_forwarder_theorems.specs.ToldAtOnce.{AnswersAtOnceAreOfReplies};
 
 /// Those who wait for a question stand in a queue: who is told to wait comes in at its end, who is replied to was its
 /// first, and who is gone leaves it. So none is lost, and none is replied to before another that came earlier.
@@ -36,11 +38,17 @@ pub fn bounds_are_kept()
 {}
 
 /// A look-up asks at most eight questions. What those who wait are told of it is what as few replies that the pool told
-/// make, one after another, some of them for a look-up before whose answer was kept; and so is all that is kept. They
-/// are all read with DO, or all without, as the key says under which it was asked and is kept. As it ages it is told for
-/// no longer than the least of its TTLs.
+/// make, one after another, some of them for a look-up before whose answer was kept; and so is all that is kept. Each
+/// was told to a look-up that had to ask what those before it led to. They are all read with DO, or all without, as the
+/// key says under which it was asked and is kept. As it ages it is told for no longer than the least of its TTLs.
 pub fn answers_are_of_replies()
     ensures { AnswersAreOfReplies }
+{}
+
+/// Each reply that a look-up is told was told of a transaction for the question that the look-up had to ask: the first
+/// for the question of its client, each later one for that to which the one before led.
+pub fn each_reply_is_to_its_question()
+    ensures { EachReplyIsToItsQuestion }
 {}
 
 /// The pool of a forwarder is one as the pool's own laws have it, whatever happens, and the octets that came to it are
@@ -50,10 +58,18 @@ pub fn replies_were_believed()
     ensures { RepliesWereBelieved }
 {}
 
-/// What is told past its end, where a look-up failed or is late, was such an answer up to a second that is over: by no
-/// more seconds than the options say, and a day at the most. It is told with TTLs of 30 seconds.
+/// What is told past its end, where a look-up failed or is late, is kept under the key of its question, and was such an
+/// answer up to a second that is over: by no more seconds than the options say, and a day at the most. It is told with
+/// TTLs of 30 seconds.
 pub fn stale_answers_are_of_replies()
     ensures { StaleAnswersAreOfReplies }
+{}
+
+/// What a query is told at once is such an answer that lasts up to that second or longer, as it has aged; one that is
+/// past its end, so; what local data say then; that all types of a name are not told; the counts; or that it is refused,
+/// or failed. What is kept is told only to a query with RD of a client that may ask, and with DO as it asks.
+pub fn answers_at_once_are_of_replies()
+    ensures { AnswersAtOnceAreOfReplies }
 {}
 
 /// Where no client is gone, the counts are those of who waits: with those who were replied to they are all who were
