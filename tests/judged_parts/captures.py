@@ -4,6 +4,7 @@ import signal
 import struct
 import subprocess
 import sys
+import time
 
 import dns.flags
 import dns.message
@@ -16,7 +17,9 @@ RESOLVER, CLIENT, UPSTREAM = "192.0.2.1", "198.51.100.7", "203.0.113.53"
 RESOLVER_6, UPSTREAM_6 = "2001:db8::1", "2001:db8::53"
 HEAD = struct.pack("<IHHiIII", 0xA1B2C3D4, 2, 4, 0, 0, 65535, 101)
 UDP, TCP = 17, 6
-SYN, FIN, PSH = 2, 1, 8
+SYN, FIN, RST, PSH = 2, 1, 4, 8
+# How many connections a stranger begins, while one goes on at each so many of them; and how many segments it sends early.
+MANY, EACH, EARLY = 70000, 1000, 20000
 
 
 def stamped(milliseconds, data):
@@ -152,6 +155,37 @@ def kept_of_connection():
     return streams.directions
 
 
+def kept_of_reset():
+    """What is kept of connections that one end resets: behind both beginnings, and in place of its own."""
+    streams, server = Streams(), (UPSTREAM, 53)
+    for port in (6000, 6001):
+        streams.take(Segment((RESOLVER, port), server, 7, SYN, b""))
+    streams.take(Segment(server, (RESOLVER, 6000), 70, SYN, b""))
+    for port in (6000, 6001):
+        streams.take(Segment(server, (RESOLVER, port), 71, RST, b""))
+    return streams.directions
+
+
+def kept_of_many():
+    """Of very many connections that a stranger begins, while one goes on: how many are kept, and what comes on that one."""
+    streams, server, own = Streams(), (UPSTREAM, 53), (RESOLVER, 6000)
+    streams.take(Segment(server, own, 7, SYN, b""))
+    for number in range(MANY):
+        streams.take(Segment((CLIENT, number), (RESOLVER, 53), 0, SYN, b""))
+        if number % EACH == 0:
+            streams.take(Segment(server, own, 8 + number // EACH, PSH, b"\0"))
+    return len(streams.directions), streams.directions[server, own].following
+
+
+def taken_by_early():
+    """How many seconds of a processor it takes to hold many segments behind one that is missing."""
+    streams, began, ends = Streams(), time.process_time(), ((CLIENT, 4000), (RESOLVER, 53))
+    streams.take(Segment(*ends, 0, SYN, b""))
+    for number in range(EARLY):
+        streams.take(Segment(*ends, 8 + number, PSH, b"a"))
+    return time.process_time() - began, streams.left_out()
+
+
 def live(top, packets):
     """The lines of the first event, read before the capture ends."""
     words = [sys.executable, top / "tools/pcap2trace", "-", "--resolver", RESOLVER]
@@ -184,7 +218,12 @@ def of_addresses(told, top):
     told.equal("both addresses", run(top, packets, RESOLVER, ASKER), (0, BOTH_SIDES, ""))
     told.equal("only that of the clients", run(top, packets), (1, BOTH_SIDES[at:], NOTHING_ASKED))
     told.equal("only that which asks", run(top, packets, ASKER), (1, BOTH_SIDES[:at], NOTHING_TOLD))
-    told.equal("nothing of DNS", run(top, []), (0, "", ""))
+    neither = NOTHING_ASKED + NOTHING_TOLD.replace(ASKER, RESOLVER)
+    told.equal("no packet", run(top, []), (1, "", neither))
+    others = [datagram(5, (CLIENT, 4000), (UPSTREAM, 80), b"\0\1")]
+    told.equal("nothing of DNS", run(top, others), (1, "", neither))
+    cut = [datagram(5, (CLIENT, 4000), (RESOLVER, 53), b"\0\1")]
+    told.equal("messages that are cut short alone", run(top, cut), (1, "", left_out(1) + neither))
     scoped = run(top, by_tcp((0, 1, 2), resolver="fe80::1", upstream=UPSTREAM_6), "fe80::1%eth0")
     told.equal("an address with a scope", scoped, (0, BY_TCP.replace("{last}", "012") + OTHER_TOLD, ""))
 
@@ -217,6 +256,10 @@ def cases(told, top):
         why = left_out(1, "segments of TCP behind one that is missing")
         told.equal("TCP with a piece that is missing", found, (0, lost, why))
         told.equal("TCP that has ended is let go of", kept_of_connection(), {})
+        told.equal("TCP that was reset is let go of", kept_of_reset(), {})
+        told.equal("TCP that a stranger begins is bounded", kept_of_many(), (1 << 16, 8 + (MANY - 1) // EACH + 1))
+        taken, behind = taken_by_early()
+        told.tell(f"{EARLY} segments that are early", taken < 1 and behind == EARLY, f"{taken} s, {behind} left out")
         found = run(top, by_tcp((0, 1, 2), resolver=RESOLVER_6, upstream=UPSTREAM_6), RESOLVER_6)
         told.equal("TCP over IPv6, with trailers", found, (0, BY_TCP.replace("{last}", "012") + OTHER_TOLD, ""))
         lines = ["at 100.001 asked www.example.test. A IN\n", "\n"]

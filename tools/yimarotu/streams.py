@@ -3,8 +3,10 @@ import struct
 from dataclasses import dataclass, field
 
 FIN, SYN, RST = 1, 2, 4
-# How many bytes of one direction are held while something before them is missing.
-HELD = 1 << 20
+# How many bytes of one direction are held while something before them is missing, and of how many segments.
+HELD, HELD_SEGMENTS = 1 << 20, 256
+# How many directions are known at a time: anybody can begin connections.
+DIRECTIONS = 1 << 16
 
 
 @dataclass(frozen=True)
@@ -35,7 +37,7 @@ class Direction:
     def take(self, number, payload):
         """The messages that are whole with these bytes. Bytes that came before are left out."""
         if not self.reaches(number):
-            if sum(map(len, self.early.values())) < HELD:
+            if len(self.early) < HELD_SEGMENTS and sum(map(len, self.early.values())) < HELD:
                 self.early[number] = payload
             else:
                 self.dropped += 1
@@ -71,8 +73,8 @@ class Direction:
 
 
 class Streams:
-    """All directions of all connections. One whose beginning is not in the capture begins with its first bytes: a
-    segment without any may be the last acknowledgement of one that has ended."""
+    """All directions of all connections, that of the latest segment last. One whose beginning is not in the capture begins
+    with its first bytes: a segment without any may be the last acknowledgement of one that has ended."""
 
     def __init__(self):
         self.directions, self._left_out = {}, 0
@@ -84,11 +86,23 @@ class Streams:
         if segment.flags & SYN or segment.payload and key not in self.directions:
             self.end(key)
             self.directions[key] = Direction(number)
-        direction = self.directions.get(key)
+        direction = self.latest(key)
         found = direction.take(number, segment.payload) if segment.payload else []
-        if segment.flags & RST or segment.flags & FIN and direction and not direction.early:
+        if segment.flags & RST:
+            self.end(key)
+            self.end((segment.target, segment.source))
+        elif segment.flags & FIN and direction and not direction.early:
             self.end(key)
         return found
+
+    def latest(self, key):
+        """A direction, or None. Where there are too many, that in which nothing came for the longest time is let go."""
+        direction = self.directions.pop(key, None)
+        if direction:
+            self.directions[key] = direction
+        if len(self.directions) > DIRECTIONS:
+            self.end(next(iter(self.directions)))
+        return direction
 
     def end(self, key):
         direction = self.directions.pop(key, None)
