@@ -22,7 +22,7 @@ import dns.message
 sys.dont_write_bytecode = True
 EMBED = Path(__file__).resolve().parent.parent
 sys.path[:0] = [str(EMBED), str(EMBED.parent / "tests")]
-from forward_parts import asking, bounds, daemon, hostile
+from forward_parts import asking, bounds, daemon, hostile, operating
 from live_parts import stub
 from live_parts.cases import Cases
 
@@ -35,6 +35,8 @@ RECORDS = [
     "mirror.example.test. 60 IN CNAME web.example.test.",
 ]
 PAGES, SHELLS, CLIENT = 8080, 2222, 40000
+# In so many seconds a reply comes that needs no server.
+SOON = 20
 # How many connections a network of IPv6 has, and how many of them one address.
 OF_NETWORK, OF_ADDRESS = 256, 64
 # The one package of a small repository, for every machine.
@@ -128,6 +130,27 @@ def of_two_links(cases):
         second.write(packet("169.254.9.9", "169.254.1.2", CLIENT, asking.query("localhost").to_wire()))
         found = heard_at({"first": first, "second": second}, CLIENT)
         cases.equal("by which link a client with a link-local address is replied to", found, "second")
+        of_this_machine(cases, "169.254.1.2")
+
+
+def of_one_socket(cases, run_daemon):
+    """The same by a socket of systemd's for IPv4 and IPv6."""
+    with socket.socket(socket.AF_INET6, socket.SOCK_DGRAM) as both:
+        both.setsockopt(socket.IPPROTO_IPV6, socket.IPV6_V6ONLY, 0)
+        both.bind(("::", 53))
+        before, how = operating.passed_on(both)
+        with run_daemon.running("server 192.0.2.53", before=before, **how):
+            of_two_links(cases)
+
+
+def of_this_machine(cases, asked):
+    """A client that asks at a link-local address from one of another interface is replied to."""
+    for source in ("10.9.0.2", "127.0.0.1"):
+        with cases.guard(f"a client at {source}"), asking.datagrams(53, asked, source=source) as sock:
+            sock.settimeout(SOON)
+            sock.send(asking.query("localhost").to_wire())
+            found = asking.addresses(dns.message.from_wire(sock.recv(512)))
+            cases.equal(f"from a link-local address to {source}, of another interface", found, ["127.0.0.1"])
 
 
 def scoped(cases, run_daemon):
@@ -345,6 +368,8 @@ def main(out, folder, name):
                 with cases.guard("two links"):
                     of_two_links(cases)
                 programs(cases, folder)
+        with cases.guard("two links, by one socket"):
+            of_one_socket(cases, run_daemon)
         with cases.guard("a server with a link-local address"):
             scoped(cases, run_daemon)
         with cases.guard("a server to which no way leads"):

@@ -160,22 +160,22 @@ static bool is_of_link(const union address *address) {
     return IN6_IS_ADDR_LINKLOCAL(&address->v6.sin6_addr);
 }
 
-/* The way of a datagram. An interface counts only for addresses that mean something on that alone. */
+/* The way of a datagram. An interface counts only for a client whose address means something on that alone, and where such
+ * an address of IPv6 was asked, which the system takes as a source by its interface alone. By IPv4 it finds the way from one
+ * itself: to another address of this machine none leads by the interface. */
 static struct way way_of(int fd, struct msghdr *header) {
     struct way way = {.fd = fd};
     memcpy(&way.client, header->msg_name, header->msg_namelen);
     for (struct cmsghdr *part = CMSG_FIRSTHDR(header); part != NULL; part = CMSG_NXTHDR(header, part)) {
-        union address asked = {.any.sa_family = way.client.any.sa_family};
         struct in_pktinfo v4;
         if (part->cmsg_level == IPPROTO_IP && part->cmsg_type == IP_PKTINFO) {
             memcpy(&v4, CMSG_DATA(part), sizeof v4);
-            way.asked.v4.ipi_spec_dst = asked.v4.sin_addr = v4.ipi_spec_dst;
-            if (is_of_link(&way.client) || is_of_link(&asked)) way.asked.v4.ipi_ifindex = v4.ipi_ifindex;
+            way.asked.v4.ipi_spec_dst = v4.ipi_spec_dst;
+            if (is_of_link(&way.client)) way.asked.v4.ipi_ifindex = v4.ipi_ifindex;
         }
         if (part->cmsg_level == IPPROTO_IPV6 && part->cmsg_type == IPV6_PKTINFO) {
             memcpy(&way.asked.v6, CMSG_DATA(part), sizeof way.asked.v6);
-            asked.v6.sin6_addr = way.asked.v6.ipi6_addr;
-            if (!is_of_link(&way.client) && !is_of_link(&asked)) way.asked.v6.ipi6_ifindex = 0;
+            if (!is_of_link(&way.client) && !IN6_IS_ADDR_LINKLOCAL(&way.asked.v6.ipi6_addr)) way.asked.v6.ipi6_ifindex = 0;
         }
     }
     return way;
