@@ -6,6 +6,7 @@ import ipaddress
 import os
 import pathlib
 import resource
+import signal
 import socket
 import tempfile
 import threading
@@ -491,10 +492,50 @@ class Failing(WithServer):
         self.assertEqual(str(resolver.lookup("four.example.test", timeout=network.LONG)[0].data), "192.0.2.4")
 
     def test_within_a_look_up(self):
-        """One that a handler of a signal makes there is refused, and does not wait for the lock of its own thread."""
-        resolver = self.resolver()
+        """One that a handler of a signal makes there is refused, and does not wait for its own thread: which has the
+        lock, which waits for the sockets, and for which another one does."""
+        resolver = self.resolver(settings="option timeout 60")
         with resolver._driver.lock, self.assertRaises(RuntimeError):
             resolver.lookup("four.example.test", timeout=1)
+        self.assertEqual(self.told_within(resolver), ("192.0.2.12", [RuntimeError]))
+        other = threading.Thread(target=error_of, args=(resolver.lookup, "held.example.test", "TXT"))
+        other.start()
+        self.server.wait_for("held", 2)
+        self.assertEqual(self.told_within(resolver), ("192.0.2.12", [RuntimeError]))
+        other.join()
+
+    def told_within(self, resolver):
+        """What a look-up came to, and what one came to that a handler of a signal made within it."""
+        asked, told = self.server.count("held"), []
+
+        def interrupt():
+            self.server.wait_for("held", asked + 1)
+            # (until it waits)
+            time.sleep(0.2)
+            signal.pthread_kill(threading.main_thread().ident, signal.SIGUSR1)
+            network.wait_until(lambda: told, "the handler is done")
+            self.server.release()
+
+        def handle(*_):
+            told.append(error_of(resolver.lookup, "four.example.test", timeout=1))
+
+        resolver.clear()
+        before, thread = signal.signal(signal.SIGUSR1, handle), threading.Thread(target=interrupt)
+        thread.start()
+        try:
+            return str(resolver.lookup("held.example.test", timeout=network.LONG)[0].data), told
+        finally:
+            thread.join()
+            signal.signal(signal.SIGUSR1, before)
+
+
+def error_of(call, *words, **more):
+    """The type of what a call raises, or None."""
+    try:
+        call(*words, **more)
+    except Exception as error:
+        return type(error)
+    return None
 
 
 class Interrupted:

@@ -64,6 +64,8 @@ class Driver(Network):
         self.lock: Any = threading.RLock()
         self.is_closed = self._is_driven = False
         self._waiting: Dict[int, Waiting] = {}
+        # (the number of its look-up, for each thread)
+        self._here = threading.local()
         self._next_number = 1
         self._channels_by_fd: Dict[int, Channel] = {}
         self._poll = select.poll()
@@ -88,13 +90,14 @@ class Driver(Network):
     def look_up(self, request: Request[Given], timeout: Optional[float]) -> Given:
         """What a look-up came to."""
         until = None if timeout is None else time.monotonic() + timeout
-        if self.lock._is_owned():
+        if self._is_within():
             raise RuntimeError("a signal handler looks up within a look-up of its thread")
         with self.lock:
             self._check_open()
             number, self._next_number = self._next_number, self._next_number + 1
             if not request.start(self.session, number):
                 return self._read_at_once(request, number)
+            self._here.number = number
             waiting = self._waiting[number] = Waiting()
             try:
                 self._settle()
@@ -102,6 +105,11 @@ class Driver(Network):
                 return request.read(self.session, number)
             finally:
                 self._end(number, waiting.is_done)
+
+    def _is_within(self) -> bool:
+        """Whether this thread is within a look-up, which does not go on meanwhile: it may have the lock, or be the one that
+        waits for the sockets of all, or be woken to."""
+        return self.lock._is_owned() or getattr(self._here, "number", 0) in self._waiting
 
     def _read_at_once(self, request: Request[Given], number: int) -> Given:
         try:
