@@ -1,10 +1,12 @@
 """The resolver for plain code, over a server of the test's own."""
+import collections
 import contextlib
 import datetime
 import gc
 import ipaddress
 import os
 import pathlib
+import random
 import resource
 import signal
 import socket
@@ -12,6 +14,7 @@ import tempfile
 import threading
 import time
 import tracemalloc
+import types
 import unittest
 import unittest.mock
 
@@ -19,6 +22,8 @@ import network
 import yimarotu
 from yimarotu import _numbers
 
+# How often a signal interrupts a look-up, and how many seconds from when it begins.
+INTERRUPTIONS, SOONEST, LATEST = 3000, 0.00001, 0.0002
 WWW = [ipaddress.ip_address("2001:db8::1"), ipaddress.ip_address("192.0.2.1")]
 
 
@@ -504,6 +509,21 @@ class Failing(WithServer):
         self.assertEqual(self.told_within(resolver), ("192.0.2.12", [RuntimeError]))
         other.join()
 
+    def test_wherever_something_is_raised(self):
+        """A signal has it raised at any moment of a look-up: none waits then, and the lock is free."""
+        resolver, here = self.resolver(), yimarotu.resolver
+        driver, left = resolver._driver, []
+        self.stack.enter_context(unittest.mock.patch.object(here, "LONGEST", 0))
+        for of_others in ({}, {0: here.Waiting(0)}):
+            with unittest.mock.patch.multiple(driver, session=Idle(), _poll=Idle(), _waiting=dict(of_others)):
+                for _ in range(INTERRUPTIONS):
+                    interrupted(driver)
+                    left.append((driver.lock._is_owned(), driver._waiting == of_others))
+                    while driver.lock._is_owned():
+                        driver.lock.release()
+        self.assertEqual(collections.Counter(left), {(False, True): 2 * INTERRUPTIONS})
+        self.assertEqual(str(resolver.lookup("four.example.test", timeout=network.LONG)[0].data), "192.0.2.4")
+
     def told_within(self, resolver):
         """What a look-up came to, and what one came to that a handler of a signal made within it."""
         asked, told = self.server.count("held"), []
@@ -536,6 +556,43 @@ def error_of(call, *words, **more):
     except Exception as error:
         return type(error)
     return None
+
+
+class Idle:
+    """A session, its poll, and a look-up in which nothing happens."""
+
+    name = "idle.example.test"
+
+    def next(self):
+        return types.SimpleNamespace(kind=_numbers.NOTHING)
+
+    def start(self, *_):
+        return True
+
+    def poll(self, *_):
+        return ()
+
+    def wait(self, *_):
+        return None
+
+    forget = tick = read = wait
+
+
+class Alarm(Exception):
+    """What a signal has raised."""
+
+
+def interrupted(driver):
+    """Looks up until a signal has something raised, soon."""
+    def handle(*_):
+        raise Alarm
+
+    before = signal.signal(signal.SIGALRM, handle)
+    try:
+        signal.setitimer(signal.ITIMER_REAL, random.uniform(SOONEST, LATEST))
+        driver.look_up(Idle(), network.LONG)
+    except Alarm:
+        signal.signal(signal.SIGALRM, before)
 
 
 class Interrupted:

@@ -27,10 +27,10 @@ LONGEST = 60
 class Waiting:
     """A look-up that waits: whether it is done, and what its thread is woken by where another waits for the sockets."""
 
-    __slots__ = ("is_done", "_asleep")
+    __slots__ = ("number", "is_done", "_asleep")
 
-    def __init__(self) -> None:
-        self.is_done = False
+    def __init__(self, number: int) -> None:
+        self.number, self.is_done = number, False
         self._asleep: Optional[threading.Lock] = None
 
     def wait(self, lock: Any, timeout: float) -> None:
@@ -43,7 +43,7 @@ class Waiting:
             asleep.acquire(timeout=timeout)
         finally:
             try:
-                lock.acquire()
+                _take(lock)
             except BaseException:
                 _take(lock)
                 raise
@@ -62,8 +62,10 @@ class Driver(Network):
         super().__init__(given, watcher)
         # One that knows who has it: where a signal has something raised as it is taken, it may be taken or not.
         self.lock: Any = threading.RLock()
-        self.is_closed = self._is_driven = False
+        self.is_closed = False
         self._waiting: Dict[int, Waiting] = {}
+        # The number of the look-up whose thread waits for the sockets.
+        self._driving = 0
         # (the number of its look-up, for each thread)
         self._here = threading.local()
         self._next_number = 1
@@ -98,13 +100,24 @@ class Driver(Network):
             if not request.start(self.session, number):
                 return self._read_at_once(request, number)
             self._here.number = number
-            waiting = self._waiting[number] = Waiting()
+            waiting = self._waiting[number] = Waiting(number)
             try:
-                self._settle()
-                self._wait(waiting, until, request.name)
-                return request.read(self.session, number)
+                return self._waited(request, waiting, until)
             finally:
-                self._end(number, waiting.is_done)
+                self._end(waiting)
+
+    def _waited(self, request: Request[Given], waiting: Waiting, until: Optional[float]) -> Given:
+        try:
+            self._settle()
+            self._wait(waiting, until, request.name)
+            return request.read(self.session, waiting.number)
+        finally:
+            self._end(waiting)
+
+    @property
+    def _is_driven(self) -> bool:
+        """Whether one of those that wait waits for the sockets."""
+        return self._driving in self._waiting
 
     def _is_within(self) -> bool:
         """Whether this thread is within a look-up, which does not go on meanwhile: it may have the lock, or be the one that
@@ -131,24 +144,24 @@ class Driver(Network):
             if self._is_driven:
                 waiting.wait(self.lock, left)
             else:
-                self._drive(left)
+                self._drive(waiting, left)
             self._check_open()
 
-    def _drive(self, left: float) -> None:
+    def _drive(self, waiting: Waiting, left: float) -> None:
         """Waits until something happens, and hands it in. Meanwhile other threads may start look-ups. Where the program
         stood still what came is let go."""
         wait = self.session.wait()
         limit = int(left * 1000) if wait is None else min(wait, int(left * 1000))
         due = time.monotonic() + limit / 1000
         try:
-            self._is_driven = True
+            self._driving = waiting.number
             self.lock.release()
             # (a millisecond that has begun counts whole)
             events = self._poll.poll(limit + 1)
         finally:
-            self._is_driven = False
+            self._driving = 0
             try:
-                self.lock.acquire()
+                _take(self.lock)
             except BaseException:
                 _take(self.lock)
                 raise
@@ -192,15 +205,18 @@ class Driver(Network):
         except BlockingIOError:
             pass
 
-    def _end(self, number: int, is_done: bool) -> None:
-        """Forgets a look-up, and has another thread wait for the sockets, where this one did."""
-        del self._waiting[number]
-        if self.is_closed:
+    def _end(self, waiting: Waiting) -> None:
+        """Forgets a look-up, once, and has another thread wait for the sockets, where this one did. (In Python 3.9 a signal
+        may have something raised where a `finally` begins, so that nothing of it is done: each look-up has two.)"""
+        _take(self.lock)
+        if waiting.number not in self._waiting:
             return
         try:
-            self.session.forget(number, is_done)
-            self._settle()
+            if not self.is_closed:
+                self.session.forget(waiting.number, waiting.is_done)
+                self._settle()
         finally:
+            self._waiting.pop(waiting.number, None)
             if self._waiting and not self._is_driven:
                 next(iter(self._waiting.values())).wake()
 
