@@ -20,6 +20,8 @@ MOST_TO_BEGIN = 1
 NIGHT, LIFE = 8 * 3600 * 1000, 3600
 # For how many milliseconds it sleeps while a question is still waited for, and for how many a failure is kept.
 NAP, FAILED = 20_000, 60_000
+# For how long it stands still: for ten seconds more than the one within which it looks at the clock.
+STOP = 12_000
 # More connections than the program hears of at a time, and for how many milliseconds it stands still: for longer than one
 # may be idle.
 CONNECTIONS, STALL = 200, 15_000
@@ -309,23 +311,28 @@ def left_between_events(cases, daemon):
 
 
 def left_while_it_stood(cases, daemon):
-    """The same where the machine did not sleep, but the program stood still."""
+    """The same where the machine did not sleep, but the program stood still, whether or not it has a connection."""
     if daemon.name.endswith(".sanitized"):
         return
-    machine = Machine(daemon.folder, daemon.program.parent / "sleeping.so")
-    with asked_for_late(daemon, machine) as (running, client, upstream, asked), asking.stream(running.port):
-        # (with one it is to look at the clock each second)
-        wait_until(lambda: running.counts()["connections"] == 2, "the connection is taken in")
-        with running.stopped():
-            upstream.answer(asked, (LIFE, "IN", "A", "192.0.2.1"))
-            machine.stand_still(NAP)
-        # (it goes on, and then time ends what waits)
-        asking.by_udp(running.port, "localhost")
-        machine.sleep(NAP)
-        asking.by_udp(running.port, "localhost")
-        reply = dns.message.from_wire(client.recv(512))
-        found = reply.id, asking.addresses(reply)
-        cases.equal("what is told of a reply that came while it stood still", found, (7, "SERVFAIL"))
+    for connections in (0, 1):
+        machine = Machine(daemon.folder, daemon.program.parent / "sleeping.so")
+        with contextlib.ExitStack() as stack:
+            running, client, upstream, asked = stack.enter_context(asked_for_late(daemon, machine))
+            for _ in range(connections):
+                stack.enter_context(asking.stream(running.port))
+            # (one is that by which the counts are asked for)
+            wait_until(lambda: running.counts()["connections"] == connections + 1, "the connections are taken in")
+            with running.stopped():
+                upstream.answer(asked, (LIFE, "IN", "A", "192.0.2.1"))
+                machine.stand_still(STOP)
+            # (it goes on, and then time ends what waits)
+            asking.by_udp(running.port, "localhost")
+            machine.sleep(2 * NAP)
+            asking.by_udp(running.port, "localhost")
+            reply = dns.message.from_wire(client.recv(512))
+            found = reply.id, asking.addresses(reply)
+            what = f"what is told of a reply that came while it stood still, connections: {connections}"
+            cases.equal(what, found, (7, "SERVFAIL"))
 
 
 def stream_at_waking(cases, daemon):

@@ -115,10 +115,12 @@ static void act(void) {
     } while (!lacks_memory && next.kind != YIMAROTU_NOTHING);
 }
 
+/* While it waits for servers it looks at the clock each second, too: else it would not see that it stood still. */
 static int wait_time(void) {
     yimarotu_waits waits = yimarotu_forwarder_wait(&forwarder, now());
     bool tries_again = lacks_memory || has_untold_failures();
-    uint64_t most = tries_again ? WITHOUT_MEMORY : counts.connections > 0 || is_paused ? SECOND : 60 * SECOND;
+    bool is_watchful = waits.has_deadline || counts.connections > 0 || is_paused;
+    uint64_t most = tries_again ? WITHOUT_MEMORY : is_watchful ? SECOND : 60 * SECOND;
     return (int)(waits.has_deadline && waits.milliseconds < most ? waits.milliseconds + 1 : most);
 }
 

@@ -10,6 +10,7 @@ import unittest.mock
 import network
 import yimarotu
 from yimarotu import _numbers, aio
+from yimarotu._network import LONGEST
 
 WWW = [ipaddress.ip_address("2001:db8::1"), ipaddress.ip_address("192.0.2.1")]
 
@@ -157,15 +158,15 @@ class Waiting(WithServer):
             (channel,) = resolver._driver.channels.values()
             self.server.release()
             network.wait_until_readable(channel.sock)
-            # (for longer than the loop was to wait)
-            time.sleep(1.5)
+            # (for longer than any wait is)
+            time.sleep(LONGEST + 0.5)
             while self.server.count("held") < 2 and not task.done():
                 await asyncio.sleep(0.01)
             self.server.release()
             return await task
 
         with unittest.mock.patch.object(aio, "STILL", 0.1):
-            found = self.run_with(work, settings=["option timeout 1", "option attempts 2"])
+            found = self.run_with(work, settings=["option timeout 3", "option attempts 2"])
         self.assertEqual(str(found[0].data), "192.0.2.12")
         self.assertEqual(self.server.count("held"), 2)
 

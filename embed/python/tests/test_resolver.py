@@ -21,6 +21,7 @@ import unittest.mock
 import network
 import yimarotu
 from yimarotu import _numbers
+from yimarotu._network import LONGEST
 
 # How often a signal interrupts a look-up, and how many seconds from when it begins.
 INTERRUPTIONS, SOONEST, LATEST = 3000, 0.00001, 0.0002
@@ -702,17 +703,16 @@ class Sleeping(WithServer):
         self.assertEqual(self.server.count("held"), 2)
 
     def test_what_came_while_the_program_stood_still(self):
-        """The same where the thread that waits for the sockets could not run for long."""
+        """The same where the thread that waits for the sockets could not run for longer than any wait is."""
         found = []
-        resolver = self.resolver(settings=["option timeout 1", "option attempts 2"])
+        resolver = self.resolver(settings=["option timeout 3", "option attempts 2"])
         self.stack.enter_context(unittest.mock.patch.object(yimarotu.resolver, "STILL", 0.1))
         thread = threading.Thread(target=lambda: found.append(resolver.lookup("held.example.test", timeout=60)))
         thread.start()
         self.server.wait_for("held", 1)
         with resolver._driver.lock:
             self.server.release()
-            # (for longer than it was to wait)
-            time.sleep(1.5)
+            time.sleep(LONGEST + 0.5)
         self.server.wait_for("held", 2)
         self.server.release()
         thread.join(60)

@@ -22,8 +22,8 @@ NOT_YET = {errno.EAGAIN, errno.EWOULDBLOCK, errno.EINTR, errno.EINPROGRESS, errn
 # The most octets that are read at once: a whole datagram.
 MOST = 65535
 # More datagrams than a socket holds, the milliseconds of a sleep after which it matters when they came, and the seconds
-# after which it does where the program stood still.
-MOST_LET_GO, SLEPT, STILL = 4096, 1000, 10
+# after which it does where the program stood still past a wait, of which none is longer than so many.
+MOST_LET_GO, SLEPT, STILL, LONGEST = 4096, 1000, 10, 1
 KINDS = {
     numbers.DATAGRAM: socket.SOCK_DGRAM | socket.SOCK_NONBLOCK,
     numbers.STREAM: socket.SOCK_STREAM | socket.SOCK_NONBLOCK,

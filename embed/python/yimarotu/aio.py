@@ -8,7 +8,7 @@ from typing import TYPE_CHECKING, Dict, Iterable, Optional, Type, Union
 
 from . import _fork
 from ._driven import Statistics
-from ._network import STILL, Channel, Network, Watcher
+from ._network import LONGEST, STILL, Channel, Network, Watcher
 from ._requests import ForAddresses, ForRecords, Given, Request, octets_of, pointer_of
 from ._settings import CACHE_OCTETS, RESOLV_CONF, File, Opening, Server, opening, read
 from .answers import Addresses, Answer, Names
@@ -119,7 +119,7 @@ class Driver(Network):
         wait = self.session.wait()
         if wait is not None:
             # (a millisecond that has begun counts whole)
-            self._tick_within((wait + 1) / 1000)
+            self._tick_within(min((wait + 1) / 1000, LONGEST))
 
     def _tick_within(self, seconds: float) -> None:
         """Where the timer would come too late, it is set anew. One that comes too early does no harm."""

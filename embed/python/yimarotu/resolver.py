@@ -11,7 +11,7 @@ from typing import Any, Dict, Iterable, List, Optional, Tuple, Type, Union
 
 from . import _fork
 from ._driven import Statistics
-from ._network import STILL, Channel, Network, Watcher
+from ._network import LONGEST, STILL, Channel, Network, Watcher
 from ._requests import ForAddresses, ForRecords, Given, Request, octets_of, pointer_of
 from ._settings import CACHE_OCTETS, RESOLV_CONF, File, Opening, Server, opening, read
 from .answers import Addresses, Answer, Names
@@ -19,9 +19,6 @@ from .errors import Closed, Timeout
 from .records import type_number
 
 __all__ = ["Resolver"]
-
-# No wait is longer, in seconds: poll takes no number of milliseconds past 31 bits, and none that has no end.
-LONGEST = 60
 
 
 class Waiting:
@@ -120,8 +117,8 @@ class Driver(Network):
         return self._driving in self._waiting
 
     def _is_within(self) -> bool:
-        """Whether this thread is within a look-up, which does not go on meanwhile: it may have the lock, or be the one that
-        waits for the sockets of all, or be woken to."""
+        """Whether this thread is within a look-up, which does not go on meanwhile: it may have the lock, or be the one
+        that waits for the sockets of all, or be woken to."""
         return self.lock._is_owned() or getattr(self._here, "number", 0) in self._waiting
 
     def _read_at_once(self, request: Request[Given], number: int) -> Given:
@@ -206,8 +203,8 @@ class Driver(Network):
             pass
 
     def _end(self, waiting: Waiting) -> None:
-        """Forgets a look-up, once, and has another thread wait for the sockets, where this one did. (In Python 3.9 a signal
-        may have something raised where a `finally` begins, so that nothing of it is done: each look-up has two.)"""
+        """Forgets a look-up, once, and has another thread wait for the sockets, where this one did. (In Python 3.9 a
+        signal may have something raised as a `finally` begins, and nothing of it is done: each look-up has two.)"""
         _take(self.lock)
         if waiting.number not in self._waiting:
             return

@@ -13,8 +13,8 @@ use crate::{ChannelFailure, Protocol};
 const ROOM: usize = 1 << 16;
 /// What may wait for a stream.
 const OUT: usize = 1 << 20;
-/// No wait is longer.
-pub(crate) const LONGEST: Duration = Duration::from_secs(60);
+/// No wait is longer: else nobody would see that the program stood still within one.
+pub(crate) const LONGEST: Duration = Duration::from_secs(1);
 /// A descriptor that poll passes over.
 const NONE: i32 = -1;
 /// Where the machine slept for so long, it matters when something came.
@@ -137,11 +137,10 @@ impl Network {
         Ok(())
     }
 
-    /// Waits until something happens, for so long at most.
-    pub(crate) fn wait(&mut self, longest: Option<Duration>) -> io::Result<()> {
-        let longest = longest.map_or(LONGEST, |it| it.min(LONGEST)).as_millis();
-        system::wait_for(&mut self.polled, i32::try_from(longest).unwrap_or(0))?;
-        Ok(())
+    /// Waits until something happens, for so long at most. Tells whether something did.
+    pub(crate) fn wait(&mut self, longest: Duration) -> io::Result<bool> {
+        let milliseconds = i32::try_from(longest.as_millis()).unwrap_or(i32::MAX);
+        system::wait_for(&mut self.polled, milliseconds)
     }
 
     /// Tells what happened.
@@ -313,7 +312,7 @@ mod tests {
         let mut heard = Vec::new();
         for (reply, is_let_go) in [(b"one", true), (b"two", false)] {
             server.send_to(reply, peer).unwrap();
-            network.wait(None).unwrap();
+            network.wait(LONGEST).unwrap();
             if is_let_go {
                 network.let_go(|_| Err("no stream")).unwrap();
             }

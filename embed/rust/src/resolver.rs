@@ -338,8 +338,9 @@ impl Resolver {
     ///
     /// No memory was left, or the system cannot wait.
     pub fn poll(&self, longest: Duration) -> Result<(), ResolveError> {
-        let now = Moment::now();
-        self.driven.borrow_mut().turn(now, Some(now + longest))
+        let (mut driven, ends) = (self.driven.borrow_mut(), Moment::now() + longest);
+        while driven.turn(Moment::now(), Some(ends))? && Moment::now() < ends {}
+        Ok(())
     }
 
     /// Drops from the cache what it has for a name, of a type.
@@ -479,10 +480,12 @@ impl Driven {
     }
 
     /// Waits until something happens, up to a moment at most, hands it in, and does what is to be
-    /// done then. It does not wait where it woke.
-    fn turn(&mut self, now: Moment, ends: Option<Moment>) -> Result<(), ResolveError> {
+    /// done then. It does not wait where it woke. Tells whether it might have waited for longer,
+    /// since nothing happened.
+    fn turn(&mut self, now: Moment, ends: Option<Moment>) -> Result<bool, ResolveError> {
         if self.wake(Duration::ZERO)? {
-            return self.act();
+            self.act()?;
+            return Ok(false);
         }
         self.looked = now;
         // A millisecond more, since it may be one that began.
@@ -491,16 +494,17 @@ impl Driven {
             .wait(now)?
             .map(|it| it + Duration::from_millis(1));
         let of_call = ends.map(|ends| ends.saturating_duration_since(now));
-        let limits = [Some(network::LONGEST), of_session, of_call];
-        let longest = limits.into_iter().flatten().min();
-        self.network.wait(longest)?;
-        self.wake(longest.unwrap_or_default())?;
+        let limit = [of_session, of_call].into_iter().flatten().min();
+        let longest = limit.map_or(network::LONGEST, |it| it.min(network::LONGEST));
+        let is_over = self.network.wait(longest)? || limit == Some(longest);
+        let woke = self.wake(longest)?;
         self.looked = Moment::now();
         let session = &mut self.session;
         self.network
             .tell(|channel, event| hand_in(session, channel, &event))?;
         self.session.tick(Moment::now())?;
-        self.act()
+        self.act()?;
+        Ok(!is_over && !woke)
     }
 
     /// Goes on until a look-up is done.
@@ -625,6 +629,25 @@ mod tests {
         let (id, question) = (&room[..2], &room[12..end]);
         let response = [id, &counts, question, &record, &address].concat();
         server.send_to(&response, peer).unwrap();
+    }
+
+    #[test]
+    fn a_call_waits_for_longer_than_any_wait() {
+        let server = UdpSocket::bind("127.0.0.1:0").unwrap();
+        let resolver = Resolver::builder_without_system()
+            .server(server.local_addr().unwrap())
+            .build()
+            .unwrap();
+        let _pending = resolver.start_lookup_ip("www.example.test.").unwrap();
+        let began = Moment::now();
+        assert!(resolver.driven.borrow_mut().turn(began, None).unwrap());
+        let taken = Moment::now().saturating_duration_since(began);
+        // (the server has five seconds)
+        assert!(taken < Duration::from_secs(4), "{taken:?}");
+        let (longest, began) = (3 * network::LONGEST / 2, Moment::now());
+        resolver.poll(longest).unwrap();
+        let taken = Moment::now().saturating_duration_since(began);
+        assert!(taken >= longest, "{taken:?}");
     }
 
     #[test]

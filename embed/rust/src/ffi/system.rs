@@ -115,15 +115,15 @@ pub(crate) fn interface(name: &str) -> Option<u32> {
     Some(unsafe { if_nametoindex(name.as_ptr()) }).filter(|index| *index != 0)
 }
 
-/// Waits for what may happen on the descriptors, for so many milliseconds at most, or less where a
-/// signal comes. Gives how many have something.
-pub(crate) fn wait_for(polled: &mut [PollFd], milliseconds: i32) -> io::Result<usize> {
+/// Waits for what may happen on the descriptors, for so many milliseconds at most. Tells whether
+/// something did, or a signal came.
+pub(crate) fn wait_for(polled: &mut [PollFd], milliseconds: i32) -> io::Result<bool> {
     // SAFETY: it reads and writes so many of them.
     let ready = unsafe { poll(polled.as_mut_ptr(), polled.len(), milliseconds) };
-    match usize::try_from(ready) {
-        Ok(ready) => Ok(ready),
-        Err(_) => match io::Error::last_os_error() {
-            error if error.kind() == io::ErrorKind::Interrupted => Ok(0),
+    match ready {
+        0.. => Ok(ready > 0),
+        _ => match io::Error::last_os_error() {
+            error if error.kind() == io::ErrorKind::Interrupted => Ok(true),
             error => Err(error),
         },
     }
