@@ -12,6 +12,8 @@ import yimarotu
 from yimarotu import _numbers, aio
 from yimarotu._network import LONGEST
 
+# After so many seconds the program stood still.
+STILL = 0.1
 WWW = [ipaddress.ip_address("2001:db8::1"), ipaddress.ip_address("192.0.2.1")]
 
 
@@ -165,8 +167,37 @@ class Waiting(WithServer):
             self.server.release()
             return await task
 
-        with unittest.mock.patch.object(aio, "STILL", 0.1):
+        with unittest.mock.patch.object(aio, "STILL", STILL):
             found = self.run_with(work, settings=["option timeout 3", "option attempts 2"])
+        self.assertEqual(str(found[0].data), "192.0.2.12")
+        self.assertEqual(self.server.count("held"), 2)
+
+    def test_what_came_while_the_timer_was_late(self):
+        """The same where the loop was blocked behind the moment of the timer, before that was called."""
+        async def work(resolver):
+            task = asyncio.ensure_future(resolver.lookup("held.example.test", timeout=network.LONG))
+            await asyncio.sleep(0)
+            self.server.wait_for("held", 1)
+            loop, driver = asyncio.get_running_loop(), resolver._driver
+            (channel,) = driver.channels.values()
+
+            def pass_the_moment():
+                loop.call_soon(block)
+                time.sleep(max(0, driver._due - loop.time()) + 0.01)
+
+            def block():
+                self.server.release()
+                network.wait_until_readable(channel.sock)
+                time.sleep(2 * STILL)
+
+            loop.call_soon(pass_the_moment)
+            while self.server.count("held") < 2 and not task.done():
+                await asyncio.sleep(0.01)
+            self.server.release()
+            return await task
+
+        with unittest.mock.patch.object(aio, "STILL", STILL):
+            found = self.run_with(work, settings=["option timeout 2", "option attempts 2"])
         self.assertEqual(str(found[0].data), "192.0.2.12")
         self.assertEqual(self.server.count("held"), 2)
 

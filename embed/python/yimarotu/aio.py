@@ -130,9 +130,13 @@ class Driver(Network):
             self._timer, self._due = self.loop.call_at(due, self._tick), due
 
     def _tick(self) -> None:
-        self._timer = None
+        # (the next timer would not tell that this one was late)
+        is_late, self._timer = self.stood_still(), None
         try:
-            self.session.tick()
+            if is_late:
+                self.let_go()
+            else:
+                self.session.tick()
         except BaseException:
             self._tick_within(AGAIN)
             raise
