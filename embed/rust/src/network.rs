@@ -118,11 +118,9 @@ impl Network {
     }
 
     /// Lets go of what came: datagrams are read and not told. Of a stream it is not known what came
-    /// by when, so it is told to be closed.
-    pub(crate) fn let_go<E>(
-        &mut self,
-        mut tell_closed: impl FnMut(u64) -> Result<(), E>,
-    ) -> Result<(), E> {
+    /// by when, so it is closed: gives the numbers of those that were not before.
+    pub(crate) fn let_go(&mut self) -> Vec<u64> {
+        let mut closed = Vec::new();
         for (channel, polled) in self.channels.iter().zip(&mut self.polled) {
             polled.revents = 0;
             match &channel.socket {
@@ -130,11 +128,11 @@ impl Network {
                 Socket::Stream { .. } if polled.fd == NONE => {}
                 Socket::Stream { .. } => {
                     polled.fd = NONE;
-                    tell_closed(channel.number)?;
+                    closed.push(channel.number);
                 }
             }
         }
-        Ok(())
+        closed
     }
 
     /// Waits until something happens, for so long at most. Tells whether something did.
@@ -143,25 +141,26 @@ impl Network {
         system::wait_for(&mut self.polled, milliseconds)
     }
 
-    /// Tells what happened.
-    pub(crate) fn tell<E>(
-        &mut self,
-        mut tell: impl FnMut(u64, Event<'_>) -> Result<(), E>,
-    ) -> Result<(), E> {
-        for place in 0..self.channels.len() {
-            let number = self.channels[place].number;
-            match self.look_at(place) {
-                Ok(0) => {}
-                Ok(length) => tell(number, Event::Came(&self.room[..length]))?,
-                Err(failure) => tell(number, Event::Failed(failure))?,
-            }
-        }
-        Ok(())
+    /// The places of channels on which something happened in the latest wait.
+    pub(crate) fn ready(&self) -> Vec<usize> {
+        let is_ready = |place: &usize| self.polled[*place].revents != 0;
+        (0..self.polled.len()).filter(is_ready).collect()
+    }
+
+    /// The channel at a place, and what happened there, if anything did.
+    pub(crate) fn look_at(&mut self, place: usize) -> (u64, Option<Event<'_>>) {
+        let number = self.channels[place].number;
+        let event = match self.take(place) {
+            Ok(0) => None,
+            Ok(length) => Some(Event::Came(&self.room[..length])),
+            Err(failure) => Some(Event::Failed(failure)),
+        };
+        (number, event)
     }
 
     /// Sends what waits, and puts what came at the front of the room; gives its length. A datagram
     /// of no octets is none. A stream that failed is looked at no more: it would always be ready.
-    fn look_at(&mut self, place: usize) -> Result<usize, ChannelFailure> {
+    fn take(&mut self, place: usize) -> Result<usize, ChannelFailure> {
         let happened = std::mem::take(&mut self.polled[place].revents);
         let sent = match happened & system::POLLOUT {
             0 => Ok(()),
@@ -314,16 +313,11 @@ mod tests {
             server.send_to(reply, peer).unwrap();
             network.wait(LONGEST).unwrap();
             if is_let_go {
-                network.let_go(|_| Err("no stream")).unwrap();
+                assert!(network.let_go().is_empty());
             }
-            let told = network.tell(|number, event| {
-                let Event::Came(octets) = event else {
-                    return Err("nothing failed");
-                };
+            if let (number, Some(Event::Came(octets))) = network.look_at(0) {
                 heard.push((number, octets.to_vec()));
-                Ok(())
-            });
-            told.unwrap();
+            }
         }
         assert_eq!(heard, [(1, b"two".to_vec())]);
     }

@@ -1,7 +1,7 @@
 //! A resolver: a session, and sockets for its channels.
 
 use std::cell::RefCell;
-use std::collections::HashSet;
+use std::collections::{HashSet, VecDeque};
 use std::fmt::Display;
 use std::marker::PhantomData;
 use std::net::SocketAddr;
@@ -129,6 +129,7 @@ impl ResolverBuilder {
             done: HashSet::new(),
             last: 0,
             looked: Moment::now(),
+            untold: VecDeque::new(),
         };
         Ok(Resolver {
             driven: driven.into(),
@@ -409,6 +410,8 @@ struct Driven {
     last: u64,
     /// When somebody looked at the sockets last.
     looked: Moment,
+    /// The channels that failed, of which the session was not told yet.
+    untold: VecDeque<(u64, ChannelFailure)>,
 }
 
 impl Driven {
@@ -427,7 +430,7 @@ impl Driven {
     /// Where the machine slept, or nobody looked at the sockets for long past such a wait, what came
     /// meanwhile is not handed in: its TTLs would count from now. Tells whether that was so.
     fn wake(&mut self, waited: Duration) -> Result<bool, ResolveError> {
-        let (session, now) = (&mut self.session, Moment::now());
+        let now = Moment::now();
         if self.network.is_empty() {
             self.looked = now;
         }
@@ -436,16 +439,29 @@ impl Driven {
             return Ok(false);
         }
         self.looked = now;
-        session.tick(now)?;
-        self.network
-            .let_go(|channel| session.failed(channel, ChannelFailure::Closed, now))?;
+        // That is told once: a call for which there is no memory comes behind it.
+        let closed = self.network.let_go();
+        self.untold
+            .extend(closed.into_iter().map(|it| (it, ChannelFailure::Closed)));
+        self.session.tick(now)?;
+        self.tell_failures()?;
         Ok(true)
+    }
+
+    /// Tells the session of channels that failed: also of those for which it had no memory before.
+    fn tell_failures(&mut self) -> Result<(), SessionError> {
+        while let Some((channel, failure)) = self.untold.front() {
+            self.session.failed(*channel, *failure, Moment::now())?;
+            self.untold.pop_front();
+        }
+        Ok(())
     }
 
     /// Does what is to be done.
     fn act(&mut self) -> Result<(), ResolveError> {
         self.wake(Duration::ZERO)?;
         loop {
+            self.tell_failures()?;
             let failed = match self.session.next()? {
                 Action::Nothing => return Ok(()),
                 Action::Continue => None,
@@ -473,9 +489,7 @@ impl Driven {
                     None
                 }
             };
-            if let Some((channel, failure)) = failed {
-                self.session.failed(channel, failure, Moment::now())?;
-            }
+            self.untold.extend(failed);
         }
     }
 
@@ -497,14 +511,36 @@ impl Driven {
         let limit = [of_session, of_call].into_iter().flatten().min();
         let longest = limit.map_or(network::LONGEST, |it| it.min(network::LONGEST));
         let is_over = self.network.wait(longest)? || limit == Some(longest);
-        let woke = self.wake(longest)?;
+        let mut woke = self.wake(longest)?;
         self.looked = Moment::now();
-        let session = &mut self.session;
-        self.network
-            .tell(|channel, event| hand_in(session, channel, &event))?;
+        for place in self.network.ready() {
+            woke |= self.hand_in(place)?;
+        }
+        self.tell_failures()?;
         self.session.tick(Moment::now())?;
         self.act()?;
         Ok(!is_over && !woke)
+    }
+
+    /// Hands in what happened on the channel at a place. The machine may have slept since another
+    /// was read: then it wakes first. Tells whether it did.
+    fn hand_in(&mut self, place: usize) -> Result<bool, ResolveError> {
+        let woke = self.wake(Duration::ZERO)?;
+        let (channel, event) = self.network.look_at(place);
+        match event {
+            None => {}
+            Some(Event::Failed(failure)) => self.untold.push_back((channel, failure)),
+            Some(Event::Came(octets)) => {
+                let came = self.session.came(channel, octets, Moment::now());
+                if came.is_err() {
+                    // Some of its octets were lost.
+                    let failed = (channel, ChannelFailure::Unreachable);
+                    self.untold.push_back(failed);
+                }
+                came?;
+            }
+        }
+        Ok(woke)
     }
 
     /// Goes on until a look-up is done.
@@ -531,19 +567,6 @@ impl Driven {
         self.session.cancel(number, moment)?;
         self.act()
     }
-}
-
-/// Hands in what happened on a channel. One of whose octets some were lost has failed.
-fn hand_in(session: &mut Session, channel: u64, event: &Event<'_>) -> Result<(), ResolveError> {
-    let now = Moment::now();
-    match event {
-        Event::Failed(failure) => session.failed(channel, *failure, now)?,
-        Event::Came(octets) => session.came(channel, octets, now).or_else(|error| {
-            session.failed(channel, ChannelFailure::Unreachable, now)?;
-            Err(error)
-        })?,
-    }
-    Ok(())
 }
 
 /// A look-up that was started. When it is dropped it is cancelled, and what only it had open is
@@ -614,10 +637,12 @@ impl<T> fmt::Debug for Pending<'_, T> {
 
 #[cfg(test)]
 mod tests {
-    use std::net::{IpAddr, UdpSocket};
-    use std::thread;
+    use std::net::{IpAddr, Ipv4Addr, TcpListener, UdpSocket};
+    use std::{mem, thread};
 
     use super::*;
+
+    const AGAIN: IpAddr = IpAddr::V4(Ipv4Addr::new(192, 0, 2, 2));
 
     /// Answers the next question with one address (RFC 1035, section 4.1).
     fn answer(server: &UdpSocket, address: [u8; 4]) {
@@ -629,6 +654,22 @@ mod tests {
         let (id, question) = (&room[..2], &room[12..end]);
         let response = [id, &counts, question, &record, &address].concat();
         server.send_to(&response, peer).unwrap();
+    }
+
+    /// A server of the test's own, and a resolver that asks it.
+    fn server_and_resolver() -> (UdpSocket, Resolver) {
+        let server = UdpSocket::bind("127.0.0.1:0").unwrap();
+        let resolver = Resolver::builder_without_system()
+            .server(server.local_addr().unwrap())
+            .option("ip_strategy", "Ipv4Only")
+            .option("timeout", 1)
+            .build()
+            .unwrap();
+        (server, resolver)
+    }
+
+    fn addresses(found: &LookupIp) -> Vec<IpAddr> {
+        found.iter().collect()
     }
 
     #[test]
@@ -652,20 +693,86 @@ mod tests {
 
     #[test]
     fn what_came_while_nobody_looked_is_let_go() {
-        let server = UdpSocket::bind("127.0.0.1:0").unwrap();
-        let resolver = Resolver::builder_without_system()
-            .server(server.local_addr().unwrap())
-            .option("ip_strategy", "Ipv4Only")
-            .option("timeout", 1)
-            .build()
-            .unwrap();
+        let (server, resolver) = server_and_resolver();
         let pending = resolver.start_lookup_ip("www.example.test.").unwrap();
         answer(&server, [192, 0, 2, 1]);
         // (the machine was started longer ago than that)
         resolver.driven.borrow_mut().looked = Moment::default();
         let again = thread::spawn(move || answer(&server, [192, 0, 2, 2]));
-        let found: Vec<IpAddr> = pending.wait().unwrap().iter().collect();
-        assert_eq!(found, ["192.0.2.2".parse::<IpAddr>().unwrap()]);
+        assert_eq!(addresses(&pending.wait().unwrap()), [AGAIN]);
         again.join().unwrap();
+    }
+
+    #[test]
+    fn what_came_before_a_stop_between_two_is_let_go() {
+        let (server, resolver) = server_and_resolver();
+        let start = |host| resolver.start_lookup_ip(host).unwrap();
+        let (first, second) = (start("one.example.test."), start("two.example.test."));
+        for _ in 0..2 {
+            answer(&server, [192, 0, 2, 1]);
+        }
+        let mut driven = resolver.driven.borrow_mut();
+        driven.network.wait(network::LONGEST).unwrap();
+        let places = driven.network.ready();
+        assert!(!driven.hand_in(places[0]).unwrap());
+        driven.looked = Moment::default();
+        assert!(driven.hand_in(places[1]).unwrap());
+        driven.act().unwrap();
+        drop(driven);
+        assert!(first.is_done() && !second.is_done());
+        let again = thread::spawn(move || answer(&server, [192, 0, 2, 2]));
+        assert_eq!(addresses(&second.wait().unwrap()), [AGAIN]);
+        again.join().unwrap();
+    }
+
+    /// Does something while each call of the session fails, as it may where no memory is left.
+    fn while_calls_fail<T>(driven: &mut Driven, act: impl FnOnce(&mut Driven) -> T) -> T {
+        let session = mem::replace(&mut driven.session, Session::closed());
+        let came_to = act(driven);
+        driven.session = session;
+        came_to
+    }
+
+    #[test]
+    fn what_came_is_let_go_where_calls_fail() {
+        let (server, resolver) = server_and_resolver();
+        let pending = resolver.start_lookup_ip("www.example.test.").unwrap();
+        answer(&server, [192, 0, 2, 1]);
+        resolver.driven.borrow_mut().looked = Moment::default();
+        while_calls_fail(&mut resolver.driven.borrow_mut(), Driven::act).unwrap_err();
+        let again = thread::spawn(move || answer(&server, [192, 0, 2, 2]));
+        assert_eq!(addresses(&pending.wait().unwrap()), [AGAIN]);
+        again.join().unwrap();
+    }
+
+    #[test]
+    fn a_failure_is_told_again_where_calls_fail() {
+        let listener = TcpListener::bind("127.0.0.1:0").unwrap();
+        let server = format!(
+            "server 127.0.0.1 {} tcp",
+            listener.local_addr().unwrap().port()
+        );
+        let resolver = Resolver::builder_without_system()
+            .settings(&server)
+            .option("ip_strategy", "Ipv4Only")
+            .option("timeout", 20)
+            .build()
+            .unwrap();
+        let pending = resolver.start_lookup_ip("www.example.test.").unwrap();
+        drop(listener.accept().unwrap());
+        let mut driven = resolver.driven.borrow_mut();
+        driven.network.wait(network::LONGEST).unwrap();
+        let told = while_calls_fail(&mut driven, |driven| {
+            driven.hand_in(0).unwrap();
+            driven.tell_failures()
+        });
+        told.unwrap_err();
+        drop(driven);
+        // (where nobody comes any more it is not waited for)
+        let _again = thread::spawn(move || drop(listener.accept().unwrap()));
+        let began = Moment::now();
+        pending.wait().unwrap_err();
+        let taken = Moment::now().saturating_duration_since(began);
+        assert!(taken < Duration::from_secs(10), "{taken:?}");
     }
 }

@@ -288,6 +288,15 @@ impl Session {
         SessionError::of(told.status, told.line, 0).map(|()| session)
     }
 
+    /// One whose calls all fail.
+    #[cfg(test)]
+    pub(crate) fn closed() -> Session {
+        Session {
+            handle: Handle::closed(),
+            room: vec![0; ROOM],
+        }
+    }
+
     /// Starts a look-up of records of a type under a number that is free. Gives whether it waits;
     /// else there is an answer.
     ///
