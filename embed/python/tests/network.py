@@ -24,8 +24,8 @@ NOERROR, SERVFAIL, NXDOMAIN, REFUSED = 0, 2, 3, 5
 SLOW = 0.4
 # What takes longer will not come, in seconds.
 LONG = 30
-# For how many nanoseconds a machine sleeps, which is longer than any question waits.
-NIGHT = 8 * 3600 * 10**9
+# For how many nanoseconds a machine sleeps: for longer than any question waits, and while it waits.
+NIGHT, NAP = 8 * 3600 * 10**9, 2 * 10**9
 
 
 def name_octets(name):
@@ -211,15 +211,15 @@ class Server:
 
 @contextlib.contextmanager
 def sleeping_machine():
-    """Gives what has the clock of the package go on as that of a machine that sleeps for a night."""
+    """Gives what has the clock of the package go on as that of a machine that sleeps, for a night or for so long."""
     clock, slept = _driven._clock, 0
 
     def told(which):
         return clock(which) + (slept if which == time.CLOCK_BOOTTIME else 0)
 
-    def sleep():
+    def sleep(nanoseconds=NIGHT):
         nonlocal slept
-        slept += NIGHT
+        slept += nanoseconds
 
     with unittest.mock.patch.object(_driven, "_clock", told):
         yield sleep
@@ -230,12 +230,12 @@ def runs_out_of_memory(session, call, times, behind=None):
     said, else at once."""
     calls, behind_it = getattr(session, call), behind is None
 
-    def called():
+    def called(*words):
         nonlocal times, behind_it
         if behind_it and times:
             times -= 1
             raise yimarotu.OutOfMemory("no memory was left")
-        told = calls()
+        told = calls(*words)
         behind_it = behind_it or told.kind == behind
         return told
 

@@ -227,6 +227,34 @@ class Waiting(WithServer):
         self.assertEqual((found, told), (yimarotu.Timeout, [yimarotu.OutOfMemory] * 2))
         self.assertLess(time.monotonic() - began, network.LONG)
 
+    def test_memory_runs_out_when_a_stream_fails(self):
+        """That is told again, before its time ends."""
+        found, told = self.failing("closes", "failed", 1, settings="option timeout 60")
+        self.assertEqual(([str(it.data) for it in found], told), (["192.0.2.7"], [yimarotu.OutOfMemory]))
+
+    def test_memory_runs_out_when_the_machine_woke(self):
+        """What came before it did is let go all the same."""
+        async def work(resolver):
+            asyncio.get_running_loop().set_exception_handler(lambda *_: None)
+            with network.sleeping_machine() as sleep:
+                task = asyncio.ensure_future(resolver.lookup("held.example.test", timeout=network.LONG))
+                await asyncio.sleep(0)
+                self.server.wait_for("held", 1)
+                driver = resolver._driver
+                (channel,) = driver.channels.values()
+                network.runs_out_of_memory(driver.session, "tick", 1)
+                self.server.release()
+                network.wait_until_readable(channel.sock)
+                sleep(network.NAP)
+                while self.server.count("held") < 2 and not task.done():
+                    await asyncio.sleep(0.01)
+                self.server.release()
+                return await task
+
+        found = self.run_with(work, settings=["option timeout 4", "option attempts 2"])
+        self.assertEqual(str(found[0].data), "192.0.2.12")
+        self.assertEqual(self.server.count("held"), 2)
+
     def test_one_of_two_is_cancelled(self):
         """Who waits for the same question goes on."""
         async def work(resolver):

@@ -452,15 +452,16 @@ class Threads(WithServer):
 class Failing(WithServer):
     """Something is raised in one of two threads, the one that waits for the sockets."""
 
-    def begin(self, timeout):
+    def begin(self, timeout, *settings):
         """Has one wait for a silent server, for so long, and then another for a reply."""
-        self.waiting, self.told = self.resolver(settings="option timeout 60"), {}
-        threads = []
-        for name, limit in (("silent", timeout), ("held", network.LONG)):
-            threads.append(threading.Thread(target=self.look_up, args=(name, limit)))
-            threads[-1].start()
-            self.server.wait_for(name, 1)
-        return threads
+        self.waiting, self.told = self.resolver(settings=settings or "option timeout 60"), {}
+        return self.start("silent", timeout), self.start("held", network.LONG)
+
+    def start(self, name, timeout):
+        thread = threading.Thread(target=self.look_up, args=(name, timeout))
+        thread.start()
+        self.server.wait_for(name, 1)
+        return thread
 
     def look_up(self, name, timeout):
         try:
@@ -487,6 +488,30 @@ class Failing(WithServer):
         self.server.release()
         threads[1].join()
         self.assertEqual(self.told, {"silent": yimarotu.OutOfMemory, "held": "192.0.2.12"})
+
+    def test_as_the_machine_woke(self):
+        """What came before it did is let go all the same."""
+        with network.sleeping_machine() as sleep:
+            threads, driver = self.begin(2 * network.LONG, "option timeout 4"), self.waiting._driver
+            with driver.lock:
+                network.runs_out_of_memory(driver.session, "tick", 1)
+                self.server.release()
+                network.wait_until_readable(list(driver.channels.values())[-1].sock)
+                sleep(network.NAP)
+            self.server.wait_for("held", 2)
+            self.server.release()
+            for thread in threads:
+                thread.join()
+        self.assertEqual(self.told, {"silent": yimarotu.OutOfMemory, "held": "192.0.2.12"})
+
+    def test_as_a_stream_fails(self):
+        """That is told again: who waits for its reply need not wait until its time ends."""
+        self.waiting, self.told = self.resolver(settings="option timeout 60"), {}
+        network.runs_out_of_memory(self.waiting._driver.session, "failed", 1)
+        threads = self.start("silent", 2 * network.LONG), self.start("closes", network.LONG)
+        for thread in threads:
+            thread.join()
+        self.assertEqual(self.told, {"silent": yimarotu.OutOfMemory, "closes": "192.0.2.7"})
 
     def test_as_it_takes_the_lock(self):
         """What a signal has raised there is raised once it is taken, and others look up as before."""

@@ -84,6 +84,8 @@ class Network:
         self.has_sent = False
         # The look-ups that are done, and of which nobody was told.
         self.done: Deque[int] = deque()
+        # The channels that failed, and how, of which the library was not told.
+        self._untold: Deque[Tuple[int, int]] = deque()
         self._asleep = asleep()
 
     def watch(self, channel: Channel) -> None:
@@ -104,6 +106,7 @@ class Network:
         if self._has_slept():
             self.let_go()
         while True:
+            self.tell_failures()
             action = following()
             kind = action.kind
             if kind == numbers.CONTINUE:
@@ -201,13 +204,13 @@ class Network:
 
     def let_go(self) -> None:
         """What came before the machine woke is not handed in: its TTLs would count from now. Of a stream it is not
-        known what did."""
-        self.session.tick()
-        for channel in list(self.channels.values()):
+        known what did. (That it slept is told once: a call for which there is no memory comes behind it.)"""
+        for channel in self.channels.values():
             if not channel.server.is_stream:
                 _empty(channel.sock)
             elif not channel.is_failed:
                 self._fail(channel, None)
+        self.session.tick()
 
     def _fail(self, channel: Channel, error: Optional[OSError]) -> None:
         """A stream that failed is of no use any more; a socket for datagrams is kept after an ICMP error."""
@@ -217,7 +220,8 @@ class Network:
         self._failed(channel.number, error)
 
     def _failed(self, number: int, error: Optional[OSError], is_local: bool = False) -> None:
-        """Octets may have gone out on one that was opened: it failed as one that leads nowhere, whatever was wanting."""
+        """A channel failed, which the library is told of. Octets may have gone out on one that was opened: it failed as
+        one that leads nowhere, whatever was wanting."""
         why = numbers.CHANNEL_UNREACHABLE
         if error is None:
             why = numbers.CHANNEL_CLOSED
@@ -227,7 +231,13 @@ class Network:
             why = numbers.CHANNEL_REFUSED
         if self.watcher is not None:
             self.watcher.failed(number, "closed" if error is None else error.strerror or str(error))
-        self.session.failed(number, why)
+        self._untold.append((number, why))
+
+    def tell_failures(self) -> None:
+        """Tells the library of the channels that failed: also of those for which it had no memory before."""
+        while self._untold:
+            self.session.failed(*self._untold[0])
+            self._untold.popleft()
 
     def _close(self, number: int) -> None:
         channel = self.channels.pop(number, None)

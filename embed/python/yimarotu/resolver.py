@@ -150,18 +150,18 @@ class Driver(Network):
         wait = self.session.wait()
         limit = int(left * 1000) if wait is None else min(wait, int(left * 1000))
         due = time.monotonic() + limit / 1000
+        self._driving = waiting.number
         try:
-            self._driving = waiting.number
             self.lock.release()
             # (a millisecond that has begun counts whole)
             events = self._poll.poll(limit + 1)
         finally:
-            self._driving = 0
             try:
                 _take(self.lock)
             except BaseException:
                 _take(self.lock)
                 raise
+        self._driving = 0
         if self.is_closed:
             return self._close_pipe()
         if time.monotonic() >= due + STILL:
@@ -178,6 +178,7 @@ class Driver(Network):
                     self.flush(channel)
                 if mask & ~select.POLLOUT and not channel.is_failed:
                     self.receive(channel)
+        self.tell_failures()
         self.session.tick()
         self._settle()
 
