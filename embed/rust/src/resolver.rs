@@ -570,8 +570,10 @@ impl Driven {
 }
 
 /// A look-up that was started. When it is dropped it is cancelled, and what only it had open is
-/// closed. Where no call waited for ten seconds, what came meanwhile is let go, and asked for anew:
-/// how long it may be used counts from when it is read.
+/// closed. Where no call waited for ten seconds, what came meanwhile is let go: how long it may be
+/// used counts from when it is read. It is asked for anew where its servers have time and attempts
+/// left; else it has timed out, though a reply was there. Calls of [`Resolver::poll`] meanwhile
+/// take it in.
 ///
 /// ```no_run
 /// # use yimarotu::{Resolver, ResolveError};
@@ -701,6 +703,22 @@ mod tests {
         let again = thread::spawn(move || answer(&server, [192, 0, 2, 2]));
         assert_eq!(addresses(&pending.wait().unwrap()), [AGAIN]);
         again.join().unwrap();
+    }
+
+    #[test]
+    fn what_is_let_go_may_have_timed_out() {
+        let server = UdpSocket::bind("127.0.0.1:0").unwrap();
+        let resolver = Resolver::builder_without_system()
+            .server(server.local_addr().unwrap())
+            .settings("option attempts 0\noption timeout 1\noption ip_strategy Ipv4Only")
+            .build()
+            .unwrap();
+        let pending = resolver.start_lookup_ip("www.example.test.").unwrap();
+        answer(&server, [192, 0, 2, 1]);
+        thread::sleep(Duration::from_millis(1100));
+        resolver.driven.borrow_mut().looked = Moment::default();
+        let error = pending.wait().unwrap_err();
+        assert!(matches!(error.kind(), ResolveErrorKind::Timeout), "{error}");
     }
 
     #[test]
