@@ -198,6 +198,22 @@ def no_way(cases, run_daemon):
             process.wait()
 
 
+def no_family(cases, run_daemon):
+    """Where the machine has no IPv6 a server of it cannot be reached, by datagrams and by a stream. That is kept."""
+    Path("/proc/sys/net/ipv6/conf/all/disable_ipv6").write_text("1")
+    for protocol in ("udp", "tcp"):
+        lines = [f"server 2001:db8::1 53 {protocol}", "option timeout 1", "option attempts 0"]
+        with run_daemon.running(*lines, port=53) as running:
+            # (the first failure is kept for what is left of a second, and each further one for longer)
+            found = {asking.addresses(asking.by_udp(53, "four.example.test")) for _ in range(3)}
+            cases.equal(f"no IPv6, by {protocol}", found, {"SERVFAIL"})
+            counts = running.counts()
+            cases.tell(f"no IPv6, by {protocol}: the failure is kept", counts["failures_told"], counts)
+        done = run(run_daemon.program.parent / "lookup", "four.example.test", "\n".join(lines))
+        if protocol == "udp":
+            cases.tell("lookup, no IPv6", done.returncode == 3 and " error 4," in done.stderr, done)
+
+
 @contextlib.contextmanager
 def without_a_line(run_daemon):
     """Runs it with the control socket that counts where no line names one; gives what it says."""
@@ -378,6 +394,8 @@ def main(out, folder, name):
             one_of_a_network(cases, run_daemon)
         with cases.guard("control sockets of others"):
             other_control(cases, run_daemon)
+        with cases.guard("a machine without IPv6"):
+            no_family(cases, run_daemon)
     print(f"{cases.passed} passed, {cases.failed} failed")
 
 

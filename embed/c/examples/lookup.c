@@ -44,9 +44,9 @@ static void fail(uint64_t channel, int error) {
 }
 
 /* A channel could not be opened, which may be for want of something here. */
-static void fail_to_open(uint64_t channel, int error) {
-    bool is_local = error == EMFILE || error == ENFILE || error == ENOBUFS || error == ENOMEM || error == EADDRNOTAVAIL
-        || error == EAGAIN; /* no port is left for a socket of datagrams */
+static void fail_to_open(uint64_t channel, int error, bool is_stream) {
+    int no_port = is_stream ? EADDRNOTAVAIL : EAGAIN;
+    bool is_local = error == EMFILE || error == ENFILE || error == ENOBUFS || error == ENOMEM || error == no_port;
     if (is_local) yimarotu_failed(&session, channel, YIMAROTU_CHANNEL_LOCAL, now());
     else fail(channel, error);
 }
@@ -64,12 +64,12 @@ static void open_channel(const yimarotu_action *open) {
         snprintf(scope, sizeof scope, "%.*s", (int)open->length - 16, (char *)room + 16);
         v6.sin6_scope_id = if_nametoindex(scope) ? if_nametoindex(scope) : (uint32_t)atoi(scope);
     }
-    if (count == CHANNELS) return fail_to_open(open->channel, EMFILE);
+    if (count == CHANNELS) return fail_to_open(open->channel, EMFILE, is_stream);
     int fd = socket(is_v4 ? AF_INET : AF_INET6, (is_stream ? SOCK_STREAM : SOCK_DGRAM) | SOCK_CLOEXEC | SOCK_NONBLOCK, 0);
-    if (fd < 0) return fail_to_open(open->channel, errno);
+    if (fd < 0) return fail_to_open(open->channel, errno, is_stream);
     int ended = is_v4 ? connect(fd, (struct sockaddr *)&v4, sizeof v4) : connect(fd, (struct sockaddr *)&v6, sizeof v6);
     if (ended != 0 && errno != EINPROGRESS) {
-        fail_to_open(open->channel, errno);
+        fail_to_open(open->channel, errno, is_stream);
         close(fd);
         return;
     }

@@ -43,9 +43,19 @@ static bool is_told(const struct failure *failure) {
     return yimarotu_forwarder_failed(&forwarder, failure->channel, failure->why, moment) != YIMAROTU_NO_MEMORY;
 }
 
-/* Whether a channel cannot be opened with this error since something is wanting here. */
-static bool is_local(int error) {
-    return error == EMFILE || error == ENFILE || error == ENOBUFS || error == ENOMEM || error == EADDRNOTAVAIL
+/* Whether this machine has an address to ask a server from: a socket for datagrams takes one as it is connected. */
+static bool has_source(const union address *server) {
+    int fd = socket(server->any.sa_family, SOCK_DGRAM | SOCK_CLOEXEC, 0);
+    bool is_there = fd >= 0 && (connect(fd, &server->any, sizeof *server) == 0 || errno != EADDRNOTAVAIL);
+    if (fd >= 0) close(fd);
+    return is_there;
+}
+
+/* Whether a channel cannot be opened with this error since something is wanting here. That no address is left may say of a
+ * stream that no port is; else it says that there is none of the family of its server. */
+static bool is_local(int error, const union address *server, bool is_stream) {
+    if (error == EADDRNOTAVAIL) return is_stream && has_source(server);
+    return error == EMFILE || error == ENFILE || error == ENOBUFS || error == ENOMEM
         || error == EAGAIN || error == ENOSPC; /* connect(2) of a datagram socket: no port; epoll_ctl(2): no watch */
 }
 
@@ -60,8 +70,6 @@ static uint8_t why_failed(int error) {
     uint8_t of_server = error == ECONNREFUSED ? YIMAROTU_CHANNEL_REFUSED : YIMAROTU_CHANNEL_UNREACHABLE;
     return error == 0 ? YIMAROTU_CHANNEL_CLOSED : of_server;
 }
-
-static uint8_t why_not_opened(int error) { return is_local(error) ? YIMAROTU_CHANNEL_LOCAL : why_failed(error); }
 
 bool has_untold_failures(void) { return untold_count > 0; }
 
@@ -119,7 +127,8 @@ void open_channel(const yimarotu_action *open) {
     int fd = channel != NULL ? socket_for(&server, is_stream) : -1;
     bool is_watched = fd >= 0 && watch(EPOLL_CTL_ADD, fd, EPOLLIN, what(open->channel));
     if (!is_watched || (connect(fd, &server.any, length) != 0 && errno != EINPROGRESS)) {
-        tell_failure(open->channel, why_not_opened(errno));
+        int error = errno;
+        tell_failure(open->channel, is_local(error, &server, is_stream) ? YIMAROTU_CHANNEL_LOCAL : why_failed(error));
         if (fd >= 0) close(fd);
         return free(channel);
     }

@@ -16,8 +16,8 @@ from ._settings import Opening
 from .errors import OutOfMemory
 
 # Errors of this machine, and not of the way to the server.
-# A channel cannot be opened, since no descriptor, no memory or no port is left.
-LOCAL = {errno.EMFILE, errno.ENFILE, errno.ENOBUFS, errno.ENOMEM, errno.EADDRNOTAVAIL, errno.EAGAIN}
+# A channel cannot be opened, since no descriptor, no memory or, for datagrams, no port is left.
+LOCAL = {errno.EMFILE, errno.ENFILE, errno.ENOBUFS, errno.ENOMEM, errno.EAGAIN}
 NOT_YET = {errno.EAGAIN, errno.EWOULDBLOCK, errno.EINTR, errno.EINPROGRESS, errno.ENOTCONN, errno.EALREADY}
 # The most octets that are read at once: a whole datagram.
 MOST = 65535
@@ -134,7 +134,7 @@ class Network:
         try:
             sock = _connected(place)
         except OSError as error:
-            self._failed(number, error, error.errno in LOCAL)
+            self._failed(number, error, _is_local(error, place))
             return
         self.channels[number] = channel = Channel(number, sock, place.server)
         self.watch(channel)
@@ -308,3 +308,20 @@ def _connected(place: Place) -> socket.socket:
             sock.close()
             raise
     return sock
+
+
+def _is_local(error: OSError, place: Place) -> bool:
+    """Whether a channel could not be opened since something is wanting here. That no address is left may say of a
+    stream that no port is; else it says that there is none of the family of its server."""
+    if error.errno == errno.EADDRNOTAVAIL:
+        return place.server.is_stream and _has_source(place)
+    return error.errno in LOCAL
+
+
+def _has_source(place: Place) -> bool:
+    """Whether this machine has an address to ask a server from: a socket for datagrams takes one as it is connected."""
+    try:
+        _connected(place._replace(kind=KINDS[numbers.DATAGRAM])).close()
+    except OSError as error:
+        return error.errno != errno.EADDRNOTAVAIL
+    return True

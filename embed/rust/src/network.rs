@@ -60,7 +60,8 @@ impl Network {
         protocol: Protocol,
         server: SocketAddr,
     ) -> Result<(), ChannelFailure> {
-        let socket = socket_to(server, protocol).map_err(|error| failure_to_open(&error))?;
+        let socket = socket_to(server, protocol)
+            .map_err(|error| failure_to_open(&error, server, protocol))?;
         self.polled.push(PollFd {
             fd: socket.fd(),
             events: system::POLLIN,
@@ -273,18 +274,28 @@ fn is_for_later(error: &io::Error) -> bool {
     of_now.contains(&error.kind())
 }
 
-/// Why a channel could not be opened.
-fn failure_to_open(error: &io::Error) -> ChannelFailure {
+/// Why a channel could not be opened. That no address is left may say of a stream that no port is;
+/// else it says that there is none of the family of its server.
+fn failure_to_open(error: &io::Error, server: SocketAddr, protocol: Protocol) -> ChannelFailure {
     let is_of_number = [system::EMFILE, system::ENFILE, system::ENOBUFS]
         .contains(&error.raw_os_error().unwrap_or_default());
     match error.kind() {
         _ if is_of_number => ChannelFailure::Local,
-        ErrorKind::OutOfMemory
-        | ErrorKind::AddrNotAvailable
-        | ErrorKind::AddrInUse
-        | ErrorKind::WouldBlock => ChannelFailure::Local,
+        ErrorKind::OutOfMemory | ErrorKind::AddrInUse | ErrorKind::WouldBlock => {
+            ChannelFailure::Local
+        }
+        ErrorKind::AddrNotAvailable if protocol == Protocol::Tcp && has_source(server) => {
+            ChannelFailure::Local
+        }
         _ => failure_of(error),
     }
+}
+
+/// Whether this machine has an address to ask a server from: a socket for datagrams takes one as it
+/// is connected.
+fn has_source(server: SocketAddr) -> bool {
+    let connected = system::socket_to(server, false);
+    !matches!(connected, Err(error) if error.kind() == ErrorKind::AddrNotAvailable)
 }
 
 /// Why a channel failed that was opened. Octets may have gone out on it, so whatever is wanting
@@ -320,6 +331,19 @@ mod tests {
             }
         }
         assert_eq!(heard, [(1, b"two".to_vec())]);
+    }
+
+    #[test]
+    fn no_address_is_no_port_of_a_stream() {
+        let server = SocketAddr::from(([127, 0, 0, 1], 53));
+        let error = io::Error::from(ErrorKind::AddrNotAvailable);
+        let wanted = [
+            (Protocol::Udp, ChannelFailure::Unreachable),
+            (Protocol::Tcp, ChannelFailure::Local),
+        ];
+        for (protocol, failure) in wanted {
+            assert_eq!(failure_to_open(&error, server, protocol), failure);
+        }
     }
 
     #[test]
