@@ -1,5 +1,7 @@
 """How it is run: settings and their faults, signals, yimarotu-control, the log, rights, many processes, activation."""
 import contextlib
+import ctypes
+import errno
 import fcntl
 import functools
 import os
@@ -9,6 +11,7 @@ import resource
 import signal
 import socket
 import stat
+import struct
 import subprocess
 import time
 from pathlib import Path
@@ -23,12 +26,26 @@ from .daemon import ROOT, SECONDS, wait_until
 OTHER_USER = "nobody"
 # How many octets a file has at the most.
 LONGEST_FILE = 4096
+# The number of getrandom(2), by machine.
+GETRANDOM = {"x86_64": 318, "aarch64": 278}
 # How many words a line of the log has.
 WORDS_OF_LINE = 6
 
 
+def refuse(number):
+    """From now on the system refuses this process a call of it, by its number (seccomp(2))."""
+    NO_NEW_PRIVS, SECCOMP, FILTER = 38, 22, 2
+    LOAD, IS_EQUAL, RETURN, ERRNO, ALLOW = 0x20, 0x15, 0x06, 0x50000, 0x7FFF0000
+    steps = [(LOAD, 0, 0, 0), (IS_EQUAL, 0, 1, number), (RETURN, 0, 0, ERRNO | errno.EPERM), (RETURN, 0, 0, ALLOW)]
+    octets = ctypes.create_string_buffer(b"".join(struct.pack("@HBBI", *step) for step in steps))
+    system, program = ctypes.CDLL(None), struct.pack("@HP", len(steps), ctypes.addressof(octets))
+    if system.prctl(NO_NEW_PRIVS, 1, 0, 0, 0) or system.prctl(SECCOMP, FILTER, program):
+        raise OSError("the system confines nothing")
+
+
 def checked(cases, daemon):
-    """--check tells each fault with its line, and ends with 1; with 0 where there is none."""
+    """--check tells each fault with its line, and ends with 1; with 0 where there is none, and with 3 where something else is
+    wanting."""
     path = daemon.write("# a comment", "", "listen 127.0.0.1 5353", "server 192.0.2.53", "control none")
     cases.equal("no fault", daemon.end_of("--config", path, "--check"), (0, "", ""))
     path = daemon.write("listen nowhere", "server 192.0.2.53", "serve..", "processes 0", "server of nothing",
@@ -42,6 +59,13 @@ def checked(cases, daemon):
     cases.tell("no such file", status == 1 and "No such file" in error, (status, error))
     for words in ([], ["--nothing"], ["--config"], ["--config", path, "more"]):
         cases.equal(f"words {words[:1]}", daemon.end_of(*words)[0], 2)
+    if (number := GETRANDOM.get(os.uname().machine)) is None:
+        print("the number of getrandom(2) is not known: that random numbers are wanting is not looked at")
+    else:
+        path = daemon.write("listen 127.0.0.1 5353", "server 192.0.2.53", "control none", "hosts none")
+        words = [daemon.program, "--config", path, "--check"]
+        done = subprocess.run(words, preexec_fn=lambda: refuse(number), capture_output=True, timeout=SECONDS)
+        cases.equal("random numbers are wanting", done.returncode, 3)
     status, told, _ = daemon.end_of("--version")
     cases.tell("--version", status == 0 and re.match(r"yimarotu-forward \d+\.\d+\.\d+, .*seccomp", told), told)
 
