@@ -19,7 +19,19 @@ enum {
     CHANNELS = 1 << 22,
     TABLE = 1 << 18
 };
-enum { A = 1, CNAME = 5, SOA = 6, TXT = 16, AAAA = 28, DNAME = 39, OPT = 41, RRSIG = 46, HTTPS = 65, TYPE97 = 97 };
+enum {
+    A = 1,
+    CNAME = 5,
+    SOA = 6,
+    TXT = 16,
+    AAAA = 28,
+    DNAME = 39,
+    OPT = 41,
+    RRSIG = 46,
+    HTTPS = 65,
+    TYPE97 = 97,
+    NXNAME = 128
+};
 enum {
     NOERROR = 0,
     FORMERR = 1,
@@ -155,6 +167,8 @@ static unsigned read_extras(const uint8_t *octets, size_t length, size_t at, ask
     bool is_signed = false;
     for (unsigned left = number_at(octets + 10); left > 0; left--) {
         size_t owner = at;
+        /* (what signs a message is its last record: RFC 8945, section 5.2) */
+        if (is_signed) return FORMERR;
         while (at < length && octets[at] != 0 && octets[at] < 64) at += octets[at] + 1u;
         if (at >= length || (octets[at] >= 64 && octets[at] < 192)) return FORMERR;
         at += octets[at] == 0 ? 1 : 2;
@@ -175,7 +189,7 @@ static unsigned read_extras(const uint8_t *octets, size_t length, size_t at, ask
     return is_signed ? NOTAUTH : version > 0 ? BADVERS : 0;
 }
 
-static bool is_no_type(unsigned type) { return type == 0 || type == 41 || type == 128 || (type >= 249 && type <= 254); }
+static bool is_no_type(unsigned type) { return type == 0 || type == OPT || (type >= 249 && type <= 254); }
 
 static unsigned code_of(const uint8_t *octets, size_t length, asked *to) {
     size_t end = HEADER + to->question_length;
@@ -187,6 +201,7 @@ static unsigned code_of(const uint8_t *octets, size_t length, asked *to) {
     if (to->question_length == 0) return FORMERR;
     if (to->type == 251 || to->type == 252) return NOTIMP;
     if (extras != 0) return extras;
+    if (to->type == NXNAME) return FORMERR; /* RFC 9824, section 3.5 */
     if (to->class != 1 || is_no_type(to->type) || !(to->flags & 256)) return REFUSED;
     return ANSWERED;
 }
