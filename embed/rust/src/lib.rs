@@ -22,6 +22,7 @@
 #![deny(unsafe_code)]
 #![warn(missing_docs)]
 
+mod driven;
 mod error;
 mod fed;
 mod ffi;
