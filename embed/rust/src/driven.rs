@@ -149,14 +149,15 @@ impl Driven {
     /// was read: then it wakes first. Tells whether it did.
     fn hand_in(&mut self, place: usize) -> Result<bool, ResolveError> {
         let woke = self.wake(Duration::ZERO)?;
+        let is_stream = self.network.is_stream(place);
         let (channel, event) = self.network.look_at(place);
         match event {
             None => {}
             Some(Event::Failed(failure)) => self.untold.push_back((channel, failure)),
             Some(Event::Came(octets)) => {
                 let came = self.session.came(channel, octets, Moment::now());
-                if came.is_err() {
-                    // Some of its octets were lost.
+                if came.is_err() && is_stream {
+                    // What comes behind octets that were lost cannot be read.
                     let failed = (channel, ChannelFailure::Unreachable);
                     self.untold.push_back(failed);
                 }
@@ -230,6 +231,20 @@ mod tests {
         (server, resolver)
     }
 
+    /// The places of so many channels on which something happened.
+    fn ready(driven: &mut Driven, count: usize) -> Vec<usize> {
+        let began = Moment::now();
+        loop {
+            driven.network.wait(network::LONGEST).unwrap();
+            let places = driven.network.ready();
+            if places.len() >= count {
+                return places;
+            }
+            let taken = Moment::now().saturating_duration_since(began);
+            assert!(taken < Duration::from_secs(30), "{places:?}");
+        }
+    }
+
     fn addresses(found: &LookupIp) -> Vec<IpAddr> {
         found.iter().collect()
     }
@@ -258,6 +273,7 @@ mod tests {
         let (server, resolver) = server_and_resolver();
         let pending = resolver.start_lookup_ip("www.example.test.").unwrap();
         answer(&server, [192, 0, 2, 1]);
+        ready(&mut resolver.driven.borrow_mut(), 1);
         // (the machine was started longer ago than that)
         resolver.driven.borrow_mut().looked = Moment::default();
         let again = thread::spawn(move || answer(&server, [192, 0, 2, 2]));
@@ -290,8 +306,7 @@ mod tests {
             answer(&server, [192, 0, 2, 1]);
         }
         let mut driven = resolver.driven.borrow_mut();
-        driven.network.wait(network::LONGEST).unwrap();
-        let places = driven.network.ready();
+        let places = ready(&mut driven, 2);
         assert!(!driven.hand_in(places[0]).unwrap());
         driven.looked = Moment::default();
         assert!(driven.hand_in(places[1]).unwrap());
@@ -316,11 +331,23 @@ mod tests {
         let (server, resolver) = server_and_resolver();
         let pending = resolver.start_lookup_ip("www.example.test.").unwrap();
         answer(&server, [192, 0, 2, 1]);
+        ready(&mut resolver.driven.borrow_mut(), 1);
         resolver.driven.borrow_mut().looked = Moment::default();
         while_calls_fail(&mut resolver.driven.borrow_mut(), Driven::act).unwrap_err();
         let again = thread::spawn(move || answer(&server, [192, 0, 2, 2]));
         assert_eq!(addresses(&pending.wait().unwrap()), [AGAIN]);
         again.join().unwrap();
+    }
+
+    #[test]
+    fn a_datagram_that_is_lost_fails_no_channel() {
+        let (server, resolver) = server_and_resolver();
+        let _pending = resolver.start_lookup_ip("www.example.test.").unwrap();
+        answer(&server, [192, 0, 2, 1]);
+        let mut driven = resolver.driven.borrow_mut();
+        let places = ready(&mut driven, 1);
+        while_calls_fail(&mut driven, |driven| driven.hand_in(places[0])).unwrap_err();
+        assert!(driven.untold.is_empty());
     }
 
     #[test]
@@ -339,7 +366,7 @@ mod tests {
         let pending = resolver.start_lookup_ip("www.example.test.").unwrap();
         drop(listener.accept().unwrap());
         let mut driven = resolver.driven.borrow_mut();
-        driven.network.wait(network::LONGEST).unwrap();
+        ready(&mut driven, 1);
         let told = while_calls_fail(&mut driven, |driven| {
             driven.hand_in(0).unwrap();
             driven.tell_failures()

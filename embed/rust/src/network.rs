@@ -148,6 +148,11 @@ impl Network {
         (0..self.polled.len()).filter(is_ready).collect()
     }
 
+    /// Whether the channel at a place is a stream.
+    pub(crate) fn is_stream(&self, place: usize) -> bool {
+        matches!(self.channels[place].socket, Socket::Stream { .. })
+    }
+
     /// The channel at a place, and what happened there, if anything did.
     pub(crate) fn look_at(&mut self, place: usize) -> (u64, Option<Event<'_>>) {
         let number = self.channels[place].number;
@@ -171,7 +176,7 @@ impl Network {
             0 => sent.map(|()| 0),
             _ => sent.and_then(|()| self.receive(place)),
         };
-        if got.is_err() && matches!(self.channels[place].socket, Socket::Stream { .. }) {
+        if got.is_err() && self.is_stream(place) {
             self.polled[place].fd = NONE;
         }
         got
