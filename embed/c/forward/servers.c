@@ -43,10 +43,11 @@ static bool is_told(const struct failure *failure) {
     return yimarotu_forwarder_failed(&forwarder, failure->channel, failure->why, moment) != YIMAROTU_NO_MEMORY;
 }
 
-/* Whether this machine has an address to ask a server from: a socket for datagrams takes one as it is connected. */
+/* Whether this machine has an address to ask a server from: a socket for datagrams takes one as it is connected. Where there
+ * is no socket nobody knows that there is none. */
 static bool has_source(const union address *server) {
     int fd = socket(server->any.sa_family, SOCK_DGRAM | SOCK_CLOEXEC, 0);
-    bool is_there = fd >= 0 && (connect(fd, &server->any, sizeof *server) == 0 || errno != EADDRNOTAVAIL);
+    bool is_there = fd < 0 || connect(fd, &server->any, sizeof *server) == 0 || errno != EADDRNOTAVAIL;
     if (fd >= 0) close(fd);
     return is_there;
 }
