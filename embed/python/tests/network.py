@@ -155,17 +155,16 @@ class Server:
     def serve_datagram(self, sock):
         octets, peer = sock.recvfrom(65535)
         query = read_query(octets, False, peer[1])
-        self.asked.append(query)
-        if query.first == "silent":
-            return
-        if query.first == "lied":
-            self._lie(sock, query, peer)
         late = time.monotonic() + (SLOW if query.first == "slow" else 0), true_reply(query), peer
         if query.first == "held":
             self._held.append(late)
-        elif query.first == "slow":
+        # (who waits until it is asked may have it release at once)
+        self.asked.append(query)
+        if query.first == "lied":
+            self._lie(sock, query, peer)
+        if query.first == "slow":
             self._late.append(late)
-        else:
+        elif query.first not in ("held", "silent"):
             sock.sendto(true_reply(query), peer)
 
     def _lie(self, sock, query, peer):

@@ -180,6 +180,9 @@ class Waiting(WithServer):
             self.server.wait_for("held", 1)
             loop, driver = asyncio.get_running_loop(), resolver._driver
             (channel,) = driver.channels.values()
+            # (the timer is not to be called before all of this)
+            while driver._due - loop.time() < 0.5:
+                await asyncio.sleep(0.01)
 
             def pass_the_moment():
                 loop.call_soon(block)

@@ -1,5 +1,6 @@
 """The resolver for plain code where something is raised in one thread while another waits."""
 import collections
+import itertools
 import random
 import signal
 import threading
@@ -12,6 +13,7 @@ import network
 import yimarotu
 from test_resolver import WithServer
 from yimarotu import _numbers
+from yimarotu.resolver import WithinLookUp
 
 # How often a signal interrupts a look-up, and how many seconds from when it begins.
 INTERRUPTIONS, SOONEST, LATEST = 3000, 0.00001, 0.0002
@@ -96,26 +98,28 @@ class Failing(WithServer):
         resolver = self.resolver(settings="option timeout 60")
         with resolver._driver.lock, self.assertRaises(RuntimeError):
             resolver.lookup("four.example.test", timeout=1)
-        self.assertEqual(self.told_within(resolver), ("192.0.2.12", [RuntimeError]))
+        self.assertEqual(self.told_within(resolver), ("192.0.2.12", [WithinLookUp]))
         other = threading.Thread(target=error_of, args=(resolver.lookup, "held.example.test", "TXT"))
         other.start()
         self.server.wait_for("held", 2)
-        self.assertEqual(self.told_within(resolver), ("192.0.2.12", [RuntimeError]))
+        self.assertEqual(self.told_within(resolver), ("192.0.2.12", [WithinLookUp]))
         other.join()
 
     def test_wherever_something_is_raised(self):
-        """A signal has it raised at any moment of a look-up: none waits then, and the lock is free."""
+        """A signal has it raised at any moment of a look-up, or behind it: none waits then, none is left in the session,
+        and the lock is free."""
         resolver, here = self.resolver(), yimarotu.resolver
         driver, left = resolver._driver, []
         self.stack.enter_context(unittest.mock.patch.object(here, "LONGEST", 0))
-        for of_others in ({}, {0: here.Waiting(0)}):
-            with unittest.mock.patch.multiple(driver, session=Idle(), _poll=Idle(), _waiting=dict(of_others)):
+        for is_done, of_others in itertools.product((False, True), ({}, {0: here.Waiting(0)})):
+            session = Holding(is_done)
+            with unittest.mock.patch.multiple(driver, session=session, _poll=Idle(), _waiting=dict(of_others)):
                 for _ in range(INTERRUPTIONS):
                     interrupted(driver)
-                    left.append((driver.lock._is_owned(), driver._waiting == of_others))
+                    left.append((driver.lock._is_owned(), driver._waiting == of_others, len(session.numbers)))
                     while driver.lock._is_owned():
                         driver.lock.release()
-        self.assertEqual(collections.Counter(left), {(False, True): 2 * INTERRUPTIONS})
+        self.assertEqual(collections.Counter(left), {(False, True, 0): 4 * INTERRUPTIONS})
         self.assertEqual(str(resolver.lookup("four.example.test", timeout=network.LONG)[0].data), "192.0.2.4")
 
     def told_within(self, resolver):
@@ -152,24 +156,44 @@ def error_of(call, *words, **more):
     return None
 
 
+class Holding:
+    """A session that knows which look-ups it holds. They are done as soon as it is asked for them, or never."""
+
+    def __init__(self, is_done):
+        self.is_done, self.numbers, self.untold = is_done, set(), []
+
+    def start(self, number):
+        self.numbers.add(number)
+        self.untold.append(number)
+        return True
+
+    def forget(self, number, _):
+        self.numbers.discard(number)
+
+    def next(self):
+        if self.is_done and self.untold:
+            return types.SimpleNamespace(kind=_numbers.LOOKED_UP, number=self.untold.pop())
+        return types.SimpleNamespace(kind=_numbers.NOTHING)
+
+    def wait(self):
+        return None
+
+    tick = wait
+
+
 class Idle:
-    """A session, its poll, and a look-up in which nothing happens."""
+    """A look-up of anything; and a poll in which nothing happens."""
 
     name = "idle.example.test"
 
-    def next(self):
-        return types.SimpleNamespace(kind=_numbers.NOTHING)
+    def start(self, session, number):
+        return session.start(number)
 
-    def start(self, *_):
-        return True
-
-    def poll(self, *_):
-        return ()
-
-    def wait(self, *_):
+    def read(self, *_):
         return None
 
-    forget = tick = read = wait
+    def poll(self, _):
+        return ()
 
 
 class Alarm(Exception):
@@ -177,14 +201,15 @@ class Alarm(Exception):
 
 
 def interrupted(driver):
-    """Looks up until a signal has something raised, soon."""
+    """Looks up, again and again, until a signal has something raised, soon."""
     def handle(*_):
         raise Alarm
 
     before = signal.signal(signal.SIGALRM, handle)
     try:
         signal.setitimer(signal.ITIMER_REAL, random.uniform(SOONEST, LATEST))
-        driver.look_up(Idle(), network.LONG)
+        while True:
+            driver.look_up(Idle(), network.LONG)
     except Alarm:
         signal.signal(signal.SIGALRM, before)
 

@@ -69,6 +69,12 @@ class Patched(WithPatch):
                 socket.getaddrinfo(name, 80)
             self.assertEqual(caught.exception.errno, number, name)
 
+    def test_within_a_look_up(self):
+        """What a handler of a signal connects to while its thread looks up cannot be looked up now."""
+        with self.resolver._driver.lock, self.assertRaises(socket.gaierror) as caught:
+            socket.getaddrinfo("www.example.test", 80)
+        self.assertEqual(caught.exception.errno, socket.EAI_AGAIN)
+
     def test_what_stands_on_it(self):
         with socket.create_server((network.ADDRESS, 0)) as listener:
             threading.Thread(target=answer_once, args=(listener,), daemon=True).start()

@@ -545,6 +545,45 @@ class Sleeping(WithServer):
         self.assertEqual([str(it[0].data) for it in found], ["192.0.2.12"])
         self.assertEqual(self.server.count("held"), 2)
 
+    def test_what_came_as_one_that_waited_was_interrupted(self):
+        """The same where it stood still as one waited for the sockets, and something was raised there as it went on."""
+        resolver = self.resolver(settings=["option timeout 3", "option attempts 2"])
+        driver, found, raised = resolver._driver, [], []
+        self.stack.enter_context(unittest.mock.patch.object(yimarotu.resolver, "STILL", 0.1))
+
+        class Poll:
+            """The first wait stands still as a reply comes."""
+
+            def __init__(self, poll):
+                self.register, self.modify, self.unregister, self.whole = poll.register, poll.modify, poll.unregister, poll
+
+            def poll(poll, _):
+                driver._poll = poll.whole
+                self.server.wait_for("held", 1)
+                self.server.release()
+                network.wait_until_readable(list(driver.channels.values())[-1].sock)
+                time.sleep(LONGEST + 0.5)
+                raise KeyboardInterrupt
+
+        def be_interrupted():
+            try:
+                resolver.lookup("silent.example.test", timeout=60)
+            except KeyboardInterrupt as error:
+                raised.append(error)
+
+        driver._poll = Poll(driver._poll)
+        threads = [threading.Thread(target=be_interrupted)]
+        threads.append(threading.Thread(target=lambda: found.append(resolver.lookup("held.example.test", timeout=60))))
+        for thread, name in zip(threads, ("silent", "held")):
+            thread.start()
+            self.server.wait_for(name, 1)
+        self.server.wait_for("held", 2)
+        self.server.release()
+        for thread in threads:
+            thread.join(60)
+        self.assertEqual(([str(it[0].data) for it in found], len(raised)), (["192.0.2.12"], 1))
+        self.assertEqual(self.server.count("held"), 2)
+
     def test_a_look_up_when_it_woke(self):
         """The first reply that comes then is believed."""
         with network.sleeping_machine() as sleep:

@@ -9,7 +9,7 @@ from typing import Any, Iterator, List, Optional, Tuple
 
 from ._driven import Address
 from .errors import BadName, Error, NoRecords, NoSuchName, ResponseCodeError
-from .resolver import Resolver
+from .resolver import Resolver, WithinLookUp
 
 _lock = threading.Lock()
 SERVFAIL = 2
@@ -74,7 +74,7 @@ def _looked_up(resolver: Resolver, original: Any, host: str, words: Tuple[Any, i
     try:
         addresses = _of_family(list(resolver.addresses(host)), family, flags)
         canonical = _canonical(resolver, host, addresses) if flags & socket.AI_CANONNAME else ""
-    except Error as error:
+    except (Error, WithinLookUp) as error:
         raise gaierror_of(error) from error
     if not addresses:
         raise gaierror_of(NoRecords())
@@ -127,7 +127,7 @@ def _has_no_way(address: Address) -> bool:
         return True
 
 
-def gaierror_of(error: Error) -> socket.gaierror:
+def gaierror_of(error: Exception) -> socket.gaierror:
     """The error that getaddrinfo has for what went wrong."""
     if isinstance(error, (NoSuchName, BadName)):
         return socket.gaierror(socket.EAI_NONAME, "Name or service not known")

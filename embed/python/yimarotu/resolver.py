@@ -1,13 +1,15 @@
 """A resolver for plain code: each call returns when the answer is there."""
 from __future__ import annotations
 
+import contextlib
 import ipaddress
+import math
 import os
 import select
 import threading
 import time
 from types import TracebackType
-from typing import Any, Dict, Iterable, List, Optional, Tuple, Type, Union
+from typing import Any, Callable, Dict, Iterable, List, Optional, Tuple, Type, TypeVar, Union
 
 from . import _fork
 from ._driven import Statistics
@@ -20,6 +22,12 @@ from .records import type_number
 
 __all__ = ["Resolver"]
 
+Result = TypeVar("Result")
+
+
+class WithinLookUp(RuntimeError):
+    """A handler of a signal looks up while its thread does."""
+
 
 class Waiting:
     """A look-up that waits: whether it is done, and what its thread is woken by where another waits for the sockets."""
@@ -27,7 +35,8 @@ class Waiting:
     __slots__ = ("number", "is_done", "_asleep")
 
     def __init__(self, number: int) -> None:
-        self.number, self.is_done = number, False
+        # (until it is begun nothing is wanted for it)
+        self.number, self.is_done = number, True
         self._asleep: Optional[threading.Lock] = None
 
     def wait(self, lock: Any, timeout: float) -> None:
@@ -61,8 +70,8 @@ class Driver(Network):
         self.lock: Any = threading.RLock()
         self.is_closed = False
         self._waiting: Dict[int, Waiting] = {}
-        # The number of the look-up whose thread waits for the sockets.
-        self._driving = 0
+        # The number of the look-up whose thread waits for the sockets, and when it is to go on.
+        self._driving, self._due = 0, math.inf
         # (the number of its look-up, for each thread)
         self._here = threading.local()
         self._next_number = 1
@@ -86,27 +95,40 @@ class Driver(Network):
         del self._channels_by_fd[fd]
         self._poll.unregister(fd)
 
+    def call(self, act: Callable[[], Result]) -> Result:
+        """Does something under the lock, where it is open. (In Python 3.9 a signal may have something raised as a `with`
+        ends, and the lock is not given back.)"""
+        had_lock = self.lock._is_owned()
+        try:
+            with self.lock:
+                self._check_open()
+                return act()
+        finally:
+            if not had_lock and self.lock._is_owned():
+                self.lock.release()
+
     def look_up(self, request: Request[Given], timeout: Optional[float]) -> Given:
         """What a look-up came to."""
         until = None if timeout is None else time.monotonic() + timeout
         if self._is_within():
-            raise RuntimeError("a signal handler looks up within a look-up of its thread")
-        with self.lock:
-            self._check_open()
-            number, self._next_number = self._next_number, self._next_number + 1
-            if not request.start(self.session, number):
-                return self._read_at_once(request, number)
-            self._here.number = number
-            waiting = self._waiting[number] = Waiting(number)
-            try:
-                return self._waited(request, waiting, until)
-            finally:
-                self._end(waiting)
+            raise WithinLookUp("a signal handler looks up within a look-up of its thread")
+        return self.call(lambda: self._looked_up(request, until))
+
+    def _looked_up(self, request: Request[Given], until: Optional[float]) -> Given:
+        number, self._next_number = self._next_number, self._next_number + 1
+        self._here.number = number
+        waiting = self._waiting[number] = Waiting(number)
+        try:
+            return self._waited(request, waiting, until)
+        finally:
+            self._end(waiting)
 
     def _waited(self, request: Request[Given], waiting: Waiting, until: Optional[float]) -> Given:
         try:
-            self._settle()
-            self._wait(waiting, until, request.name)
+            waiting.is_done = not request.start(self.session, waiting.number)
+            if not waiting.is_done:
+                self._settle()
+                self._wait(waiting, until, request.name)
             return request.read(self.session, waiting.number)
         finally:
             self._end(waiting)
@@ -120,13 +142,6 @@ class Driver(Network):
         """Whether this thread is within a look-up, which does not go on meanwhile: it may have the lock, or be the one
         that waits for the sockets of all, or be woken to."""
         return self.lock._is_owned() or getattr(self._here, "number", 0) in self._waiting
-
-    def _read_at_once(self, request: Request[Given], number: int) -> Given:
-        try:
-            return request.read(self.session, number)
-        finally:
-            self.session.forget(number, is_done=True)
-            self._settle()
 
     def _check_open(self) -> None:
         if self.is_closed:
@@ -146,11 +161,12 @@ class Driver(Network):
 
     def _drive(self, waiting: Waiting, left: float) -> None:
         """Waits until something happens, and hands it in. Meanwhile other threads may start look-ups. Where the program
-        stood still what came is let go."""
+        stood still, also before this and as one that waited was interrupted, what came is let go."""
+        if self._has_slept():
+            self.let_go()
         wait = self.session.wait()
         limit = int(left * 1000) if wait is None else min(wait, int(left * 1000))
-        due = time.monotonic() + limit / 1000
-        self._driving = waiting.number
+        self._driving, self._due = waiting.number, time.monotonic() + limit / 1000
         try:
             self.lock.release()
             # (a millisecond that has begun counts whole)
@@ -164,9 +180,19 @@ class Driver(Network):
         self._driving = 0
         if self.is_closed:
             return self._close_pipe()
-        if time.monotonic() >= due + STILL:
+        if self._has_slept():
             self.let_go()
         self._take(events)
+
+    def stood_still(self) -> bool:
+        is_late = time.monotonic() >= self._due + STILL
+        if is_late:
+            self._due = math.inf
+        return is_late
+
+    def reload(self, conf: bytes, clears: bool) -> None:
+        self.session.servers(conf, clears)
+        self._settle()
 
     def _take(self, events: List[Tuple[int, int]]) -> None:
         for fd, mask in events:
@@ -204,32 +230,36 @@ class Driver(Network):
             pass
 
     def _end(self, waiting: Waiting) -> None:
-        """Forgets a look-up, once, and has another thread wait for the sockets, where this one did. (In Python 3.9 a
-        signal may have something raised as a `finally` begins, and nothing of it is done: each look-up has two.)"""
+        """Forgets a look-up, and has another thread wait for the sockets, where this one did. (In Python 3.9 a signal may
+        have something raised as a `finally` begins, and nothing of it is done: each look-up has two.)"""
         _take(self.lock)
         if waiting.number not in self._waiting:
             return
+        if not self.is_closed:
+            self.session.forget(waiting.number, waiting.is_done)
+        self._waiting.pop(waiting.number, None)
         try:
             if not self.is_closed:
-                self.session.forget(waiting.number, waiting.is_done)
                 self._settle()
         finally:
-            self._waiting.pop(waiting.number, None)
-            if self._waiting and not self._is_driven:
+            if not self._waiting:
+                self._due = math.inf
+            elif not self._is_driven:
                 next(iter(self._waiting.values())).wake()
 
     def close(self) -> None:
-        with self.lock:
-            if self.is_closed:
-                return
-            self.is_closed = True
-            super().close()
-            for waiting in self._waiting.values():
-                waiting.wake()
-            if self._is_driven:
-                self.wake()
-            else:
-                self._close_pipe()
+        with contextlib.suppress(Closed):
+            self.call(self._close_all)
+
+    def _close_all(self) -> None:
+        self.is_closed = True
+        super().close()
+        for waiting in self._waiting.values():
+            waiting.wake()
+        if self._is_driven:
+            self.wake()
+        else:
+            self._close_pipe()
 
     def _close_pipe(self) -> None:
         woken, wake, self._woken, self._wake = self._woken, self._wake, -1, -1
@@ -347,9 +377,7 @@ class Resolver:
         0
         """
         driver = self._driver or self._open_again()
-        with driver.lock:
-            driver._check_open()
-            driver.session.clear()
+        driver.call(driver.session.clear)
 
     def clear_name(self, name: str, record_type: Union[str, int] = "A") -> None:
         """Drops from the cache what it has for a name, of a type.
@@ -361,9 +389,8 @@ class Resolver:
         0
         """
         driver = self._driver or self._open_again()
-        with driver.lock:
-            driver._check_open()
-            driver.session.clear_name(octets_of(name), type_number(record_type))
+        octets, number = octets_of(name), type_number(record_type)
+        driver.call(lambda: driver.session.clear_name(octets, number))
 
     def reload_servers(self, resolv_conf: File = None, *, clears: bool = False) -> None:
         """Asks the servers of resolv.conf from now on, as it stands now, and those of `servers` no more. With
@@ -374,10 +401,7 @@ class Resolver:
         """
         driver = self._driver or self._open_again()
         conf = read(resolv_conf, RESOLV_CONF)
-        with driver.lock:
-            driver._check_open()
-            driver.session.servers(conf, clears)
-            driver._settle()
+        driver.call(lambda: driver.reload(conf, clears))
 
     def statistics(self) -> Statistics:
         """What it did, and holds.
@@ -388,9 +412,7 @@ class Resolver:
         1
         """
         driver = self._driver or self._open_again()
-        with driver.lock:
-            driver._check_open()
-            return driver.session.statistics()
+        return driver.call(driver.session.statistics)
 
     def _open_again(self) -> Driver:
         """In a child of fork."""
