@@ -23,7 +23,6 @@ use Rattle.hickory_resolver_traffic.specs.declared.doing.Doing.{Doing}
 use Rattle.hickory_resolver_traffic.specs.declared.doing.Doing.TheVariants.{Hears, Doubts, Stalls, Fails, Quits, PutsBack, Expires, Frees, Refused, Leaves, Ends, Draws, BeginsRound, GivesUp, Blocks, Sends, Dates, Rests}
 use Rattle.hickory_resolver_traffic.specs.declared.entry.ToDo.TheVariants as todo
 use Rattle.hickory_resolver_traffic.specs.declared.inbox.ChannelFailure.{ChannelFailure}
-use Rattle.hickory_resolver_traffic.specs.Tasks.{closed}
 use Rattle.hickory_resolver_pool_theorems.proofs.Keys.{at-is, found-set, others-set}
 
 -- ---- the lists, and how many transactions ask the servers of each

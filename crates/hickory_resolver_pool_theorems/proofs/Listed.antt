@@ -8,9 +8,7 @@ use Rattle.std.specs.List.{AllByRecursion}
 use Rattle.std.specs.Map.{lookup, remove_entry}
 use Rattle.std.specs.BTreeMap.{insert_entry, is_at}
 use Rattle.std.specs.Option.{is_some, option_map_or}
-use Rattle.hickory_resolver_flights.specs.Flights.{changed}
-use Rattle.hickory_resolver_transactions.specs.Transaction.{freed}
-use Rattle.hickory_resolver_traffic.specs.Doing.{Scene, doubts_message, is_empty, leaves, one_freed, doing}
+use Rattle.hickory_resolver_traffic.specs.Doing.{Scene, doubts_message, is_empty, one_freed, doing}
 use Rattle.hickory_resolver_traffic.specs.Inbox.{MessageValue, first_message, first_failure}
 use Rattle.hickory_resolver_traffic.specs.Table.{CurrentState, EntryState, TableState}
 use Rattle.hickory_resolver_traffic.specs.Groups.{GroupListState, GroupsState, list_in, list_at, put_list, drop_list, is_needed, kept_if_needed, swept, changed_list, one_more, one_less, new_list, retired, without_current, numbers_of, with_servers, current_of}

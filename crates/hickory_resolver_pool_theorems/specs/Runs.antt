@@ -1,6 +1,6 @@
 -- What happened to a pool, one thing after another.
 use Rattle.std.specs.Prelude.{◌≡◌, ℕ, max, List, [], ◌∷◌, ◌++◌, Option, Some}
-use Rattle.hickory_resolver_pool.specs.Laws.{PoolEvent, time_passes, is_asked, octets_come, channel_fails, after_event, Reached}
+use Rattle.hickory_resolver_pool.specs.Laws.{PoolEvent, time_passes, group_has, is_asked, octets_come, channel_fails, after_event, Reached}
 use Rattle.hickory_resolver_pool.specs.Over.{OverValue}
 use Rattle.hickory_resolver_pool.specs.Pool.{PoolState, Steps}
 use Rattle.hickory_resolver_pool.specs.declared.pool.Action.{Action}
@@ -19,18 +19,20 @@ pub data Runs (start : PoolState) : List Happening → PoolState → Type 0 wher
   by_step : (past : List Happening) (s after : PoolState) (r : Option Action) → Steps s r after → Runs start past s
       → Runs start (did s r ∷ past) after
 
--- ---- the octets that came
+-- ---- what a pool was given
 
--- an event is that octets come, or it is none of these
-abbrev pub octets_of : PoolEvent → List PoolEvent
-octets_of (octets_come channel octets now) = octets_come channel octets now ∷ []
-octets_of other = []
+-- an event is that octets come, that a channel fails, or that a group has servers; or it is none of these
+abbrev pub given_by : PoolEvent → List PoolEvent
+given_by (octets_come channel octets now) = octets_come channel octets now ∷ []
+given_by (channel_fails failure now) = channel_fails failure now ∷ []
+given_by (group_has group servers) = group_has group servers ∷ []
+given_by other = []
 
--- the octets that came to a pool, each with its channel and its moment, the latest first
-abbrev pub octets_in : List Happening → List PoolEvent
-octets_in [] = []
-octets_in (came s e ∷ past) = octets_of e ++ octets_in past
-octets_in (did s r ∷ past) = octets_in past
+-- the octets that came to a pool, the channels that failed, and the servers of its groups, the latest first
+abbrev pub given_in : List Happening → List PoolEvent
+given_in [] = []
+given_in (came s e ∷ past) = given_by e ++ given_in past
+given_in (did s r ∷ past) = given_in past
 
 -- ---- moments
 

@@ -25,8 +25,8 @@ use Rattle.yimarotu_forwarder.specs.Steps.{telling_of}
 use Rattle.yimarotu_forwarder.specs.Telling.{response_in, response_of}
 use Rattle.yimarotu_forwarder_theorems.specs.Believed.{RepliesWereBelieved, WasBelieved}
 use Rattle.yimarotu_forwarder_theorems.specs.Lookups.{ToldReply, WasTold}
-use Rattle.yimarotu_forwarder_theorems.specs.Runs.{ForwarderEvent, Happening, Runs, at_first, happened, next, octets_by, octets_of_servers}
-use Rattle.yimarotu_forwarder_theorems.proofs.Parts.{Goes, PoolGoes, TellsSame, near_by, octets_go, part, pool-goes, pool-in, pool_goes, pool_stays, pool_steps, telling-goes, telling-in, tells-same}
+use Rattle.yimarotu_forwarder_theorems.specs.Runs.{ForwarderEvent, Happening, Runs, at_first, happened, next, given_by, given_in}
+use Rattle.yimarotu_forwarder_theorems.proofs.Parts.{Goes, PoolGoes, TellsSame, near_by, event_goes, part, pool-goes, pool-in, pool_goes, pool_stays, pool_steps, telling-goes, telling-in, tells-same}
 use Rattle.yimarotu_forwarder_theorems.proofs.Pools.{goes}
 
 module _ (options : PoolOptions) (limits : PoolLimits) (seed : List ℕ) where
@@ -50,20 +50,20 @@ module _ (options : PoolOptions) (limits : PoolLimits) (seed : List ℕ) where
   }
 
   -- what happened to a pool after this
-  pub record Later (past : List pool.Happening) (came : List PoolEvent) (p : PoolState) : Type 0 where
+  pub record Later (past : List pool.Happening) (given : List PoolEvent) (p : PoolState) : Type 0 where
     pub more : List pool.Happening
     pub runs : pool.Runs start (more ++ past) p
-    pub are : pool.octets_in (more ++ past) ≡ came
+    pub are : pool.given_in (more ++ past) ≡ given
 
-  went : (past : List pool.Happening) (came : List PoolEvent) (p q : PoolState) → PoolGoes p q → Later past came p
-      → Later past came q
-  went past came p q (pool_stays p' q' same) h = subst (Later past came) (sym same) h
-  went past came p q (pool_goes p' q' e none rest) h =
-      went past came (after_event p e) q rest
+  went : (past : List pool.Happening) (given : List PoolEvent) (p q : PoolState) → PoolGoes p q → Later past given p
+      → Later past given q
+  went past given p q (pool_stays p' q' same) h = subst (Later past given) (sym same) h
+  went past given p q (pool_goes p' q' e none rest) h =
+      went past given (after_event p e) q rest
       (record {
         more = pool.came p e ∷ h.more;
         runs = pool.by_event (h.more ++ past) p e h.runs;
-        are = ap (λ (l : List PoolEvent). l ++ pool.octets_in (h.more ++ past)) none ∙ h.are;
+        are = ap (λ (l : List PoolEvent). l ++ pool.given_in (h.more ++ past)) none ∙ h.are;
       })
 
   -- a transaction that is over with a reply
@@ -100,19 +100,19 @@ module _ (options : PoolOptions) (limits : PoolLimits) (seed : List ℕ) where
   pub record Stands (past : List Happening) (s : ForwarderValue) : Type 0 where
     pub pool_past : List pool.Happening
     pub runs : pool.Runs start pool_past s.pool
-    pub came : pool.octets_in pool_past ≡ octets_of_servers past
+    pub given : pool.given_in pool_past ≡ given_in past
     pub telling : (t : TellingValue) → s.telling ≡ Some t → IsBelievedOver pool_past t.over
     pub told : (r : ToldReply) → WasTold past r → WasBelieved start pool_past r
 
   module _ (past : List Happening) (event : ForwarderEvent) (b a : ForwarderValue) (h : Stands past b) where
     stands-on : (more : List pool.Happening) → pool.Runs start (more ++ h.pool_past) a.pool
-        → pool.octets_in (more ++ h.pool_past) ≡ octets_by event ++ octets_of_servers past
+        → pool.given_in (more ++ h.pool_past) ≡ given_by event ++ given_in past
         → ((t : TellingValue) → a.telling ≡ Some t → IsBelievedOver (more ++ h.pool_past) t.over)
         → Stands (happened event b a ∷ past) a
-    stands-on more runs came telling = record {
+    stands-on more runs given telling = record {
       pool_past = more ++ h.pool_past;
       runs = runs;
-      came = came;
+      given = given;
       telling = telling;
       told = λ r w. by r w;
     }
@@ -145,23 +145,23 @@ module _ (options : PoolOptions) (limits : PoolLimits) (seed : List ℕ) where
             subst (IsBelievedOver (pool.did b.pool (Some (does.Over o)) ∷ h.pool_past)) same
             (was-over h.pool_past b.pool a.pool o s h.runs)
 
-    goes-on : (came : List PoolEvent) → octets_by event ≡ came → Goes b a came → Stands (happened event b a ∷ past) a
-    goes-on came is (near_by near) =
-        let l = went h.pool_past (octets_of_servers past) b.pool a.pool (pool-goes (part b) (part a) near)
-        (record { more = []; runs = h.runs; are = h.came }) in
+    goes-on : (given : List PoolEvent) → given_by event ≡ given → Goes b a given → Stands (happened event b a ∷ past) a
+    goes-on given is (near_by near) =
+        let l = went h.pool_past (given_in past) b.pool a.pool (pool-goes (part b) (part a) near)
+        (record { more = []; runs = h.runs; are = h.given }) in
         stands-on l.more l.runs
-        (l.are ∙ ap (λ (l : List PoolEvent). l ++ octets_of_servers past) (sym is)) (tells-on l.more (telling-goes (part b) (part a) near))
-    goes-on came is (octets_go e kept part_is) =
+        (l.are ∙ ap (λ (l : List PoolEvent). l ++ given_in past) (sym is)) (tells-on l.more (telling-goes (part b) (part a) near))
+    goes-on given is (event_goes e kept part_is) =
         let more : List pool.Happening = pool.came b.pool e ∷ [] in
         stands-on more
         (subst (λ (p : PoolState). pool.Runs start (more ++ h.pool_past) p) (sym (ap pool-in part_is))
         (pool.by_event h.pool_past b.pool e h.runs))
-        (ap (λ (l : List PoolEvent). pool.octets_of e ++ l) h.came
-        ∙ ap (λ (l : List PoolEvent). l ++ octets_of_servers past) (sym is))
+        (ap (λ (l : List PoolEvent). pool.given_by e ++ l) h.given
+        ∙ ap (λ (l : List PoolEvent). l ++ given_in past) (sym is))
         (tells-on more (tells-same b.telling a.telling (ap telling-in part_is)))
-    goes-on came is (pool_steps did steps part_is) =
+    goes-on given is (pool_steps did steps part_is) =
         stands-on (pool.did b.pool did ∷ []) (pool.by_step h.pool_past b.pool a.pool did steps h.runs)
-        (h.came ∙ ap (λ (l : List PoolEvent). l ++ octets_of_servers past) (sym is))
+        (h.given ∙ ap (λ (l : List PoolEvent). l ++ given_in past) (sym is))
         (stepped did steps (ap telling-in part_is))
 
   module _ (own : OptionsValue) (local : LocalValue) (cache failures : CacheBounds) where
@@ -170,15 +170,15 @@ module _ (options : PoolOptions) (limits : PoolLimits) (seed : List ℕ) where
     stands past s at_first = record {
       pool_past = [];
       runs = pool.at_first;
-      came = refl;
+      given = refl;
       telling = λ t is. absurd cc;
       told = λ r told. absurd told;
     }
     stands past s (next earlier event before after happens runs) =
-        goes-on earlier event before after (stands earlier before runs) (octets_by event) refl
+        goes-on earlier event before after (stands earlier before runs) (given_by event) refl
         (goes event before after happens)
 
 pub replies_were_believed : RepliesWereBelieved
 replies_were_believed own local cache failures options limits seed past s runs =
     let here = stands options limits seed own local cache failures past s runs in
-    record { pool_past = here.pool_past; runs = here.runs; came = here.came; believed = here.told }
+    record { pool_past = here.pool_past; runs = here.runs; given = here.given; believed = here.told }

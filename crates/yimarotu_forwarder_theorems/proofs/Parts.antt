@@ -8,7 +8,7 @@ use Rattle.hickory_resolver_pool.specs.Pool.{PoolState, asking_told, list_of}
 use Rattle.hickory_resolver_pool.specs.Pool as in_pool
 use Rattle.hickory_resolver_pool.specs.declared.pool.Action.{Action}
 use Rattle.hickory_resolver_pool.specs.declared.pool.Asked.TheVariants as asked
-use Rattle.hickory_resolver_pool_theorems.specs.Runs.{octets_of}
+use Rattle.hickory_resolver_pool_theorems.specs.Runs.{given_by}
 use Rattle.hickory_resolver_tries.specs.Question.{question_of}
 use Rattle.hickory_resolver_tries.specs.declared.pool_question.DnssecOptions.{DnssecOptions}
 use Rattle.yimarotu_forwarder.specs.Fetches.{Begins, Ends, FetchValue, FetchesValue, HoldsFetch, LeadsOn, asked_for, fetch_at, first_asked, with_asker, without_asker}
@@ -46,7 +46,7 @@ pub record Asks (f : FetchValue) (number : ℕ) (before after : PoolState) : Typ
   pub after_is : after ≡ after_event before (is_asked group f.lookup.next options dnssec now)
 
 pub data Move (c d : Part) : Type 0 where
-  pool_hears : (e : PoolEvent) → octets_of e ≡ [] → IsKept e → d ≡ record c { pool = after_event c.pool e } → Move c d
+  pool_hears : (e : PoolEvent) → given_by e ≡ [] → IsKept e → d ≡ record c { pool = after_event c.pool e } → Move c d
   told_all : d ≡ record c { telling = None } → Move c d
   counts_one : (t : TellingValue) → c.telling ≡ Some t → d ≡ record c { telling = Some (one_more t) } → Move c d
   fetch_changes : (key : List ℕ) (f g : FetchValue) → fetch_at key c.fetches ≡ Some f → g.lookup ≡ f.lookup
@@ -80,20 +80,20 @@ move-one c d first = more c d d first (as_before d d refl)
 abbrev pub Near : ForwarderValue → ForwarderValue → Type 0
 Near b a = Moves (part b) (part a)
 
--- so it is, or octets came from a server, or a step of the pool was done; with the octets that came
+-- so it is, or the pool was given something, or a step of it was done; with what it was given
 pub data Goes (b a : ForwarderValue) : List PoolEvent → Type 0 where
   near_by : Near b a → Goes b a []
-  octets_go : (e : PoolEvent) → IsKept e → part a ≡ record (part b) { pool = after_event b.pool e }
-      → Goes b a (octets_of e)
+  event_goes : (e : PoolEvent) → IsKept e → part a ≡ record (part b) { pool = after_event b.pool e }
+      → Goes b a (given_by e)
   pool_steps : (did : Option Action) → in_pool.Steps b.pool did a.pool
       → part a ≡ record (part b) { pool = a.pool; telling = telling_of did } → Goes b a []
 
 -- ---- what happens to the pool
 
--- events, one after another, none of them octets that come
+-- events, one after another, none of them something that is given
 pub data PoolGoes : PoolState → PoolState → Type 0 where
   pool_stays : (p q : PoolState) → q ≡ p → PoolGoes p q
-  pool_goes : (p q : PoolState) (e : PoolEvent) → octets_of e ≡ [] → PoolGoes (after_event p e) q → PoolGoes p q
+  pool_goes : (p q : PoolState) (e : PoolEvent) → given_by e ≡ [] → PoolGoes (after_event p e) q → PoolGoes p q
 
 pool-then : (p q r : PoolState) → PoolGoes p q → PoolGoes q r → PoolGoes p r
 pool-then p q r (pool_stays p' q' same) rest = subst (λ (x : PoolState). PoolGoes x r) same rest
@@ -103,7 +103,7 @@ pool-then p q r (pool_goes p' q' e none first) rest =
 abbrev pub pool-in : Part → PoolState
 pool-in c = c.pool
 
-one-event : (p q : PoolState) (e : PoolEvent) → octets_of e ≡ [] → q ≡ after_event p e → PoolGoes p q
+one-event : (p q : PoolState) (e : PoolEvent) → given_by e ≡ [] → q ≡ after_event p e → PoolGoes p q
 one-event p q e none is = pool_goes p q e none (pool_stays (after_event p e) q is)
 
 pool-moved : (c d : Part) → Move c d → PoolGoes c.pool d.pool

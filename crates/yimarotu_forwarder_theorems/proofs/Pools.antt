@@ -10,7 +10,7 @@ use Rattle.hickory_resolver_pool.specs.Laws.{PoolEvent, after_event, channel_fai
 use Rattle.hickory_resolver_pool.specs.Over.{OverValue}
 use Rattle.hickory_resolver_pool.specs.declared.pool.Asked as pool_asked
 use Rattle.hickory_resolver_pool.specs.declared.pool.Asked.TheVariants as asked
-use Rattle.hickory_resolver_pool_theorems.specs.Runs.{octets_of}
+use Rattle.hickory_resolver_pool_theorems.specs.Runs as pool
 use Rattle.hickory_resolver_askers.specs.declared.asker.Asker.{Asker}
 use Rattle.hickory_resolver_tries.specs.declared.pool_question.PoolQuestion.{PoolQuestion}
 use Rattle.client_queries.specs.declared.query.Refusal.{Refusal}
@@ -51,8 +51,8 @@ use Rattle.yimarotu_forwarder.specs.declared.answered.Answered.{Answered}
 use Rattle.yimarotu_forwarder.specs.declared.answered.Answered.TheVariants.{Dropped}
 use Rattle.yimarotu_forwarder.specs.declared.steps.ForwarderAction.{ForwarderAction}
 use Rattle.yimarotu_forwarder.specs.declared.steps.ForwarderAction.TheVariants as act
-use Rattle.yimarotu_forwarder_theorems.specs.Runs.{ForwarderEvent, Happens, octets_by, all_is_cleared, channel_fails as fails_channel, client_is_gone, is_stepped, local_data_is, name_is_flushed, octets_come as octets_came, options_are, query_comes, query_is_refused, servers_are, step_is_refused, time_passes as moment_comes}
-use Rattle.yimarotu_forwarder_theorems.proofs.Parts.{Asks, Goes, IsKept, Move, Moves, Near, Part, as_before, asker_ends, asker_goes, asker_leads, client_goes, counts_one, fetch_asks, fetch_begins, fetch_changes, more, move-one, near_by, octets_go, part, pool_hears, pool_steps, told_all, turn_ends, turn_passes}
+use Rattle.yimarotu_forwarder_theorems.specs.Runs.{ForwarderEvent, Happens, given_by, all_is_cleared, channel_fails as fails_channel, client_is_gone, is_stepped, local_data_is, name_is_flushed, octets_come as octets_came, options_are, query_comes, query_is_refused, servers_are, step_is_refused, time_passes as moment_comes}
+use Rattle.yimarotu_forwarder_theorems.proofs.Parts.{Asks, Goes, IsKept, Move, Moves, Near, Part, as_before, asker_ends, asker_goes, asker_leads, client_goes, counts_one, fetch_asks, fetch_begins, fetch_changes, more, move-one, near_by, event_goes, part, pool_hears, pool_steps, told_all, turn_ends, turn_passes}
 
 -- ---- what it does with the pool
 
@@ -556,18 +556,18 @@ stops-near b a h = by-end b.chain_end h
 -- ---- all that may happen
 
 -- an event of the pool alone
-by-event : (e : PoolEvent) → octets_of e ≡ [] → IsKept e → (b a : ForwarderValue)
+by-event : (e : PoolEvent) → pool.given_by e ≡ [] → IsKept e → (b a : ForwarderValue)
     → part a ≡ record (part b) { pool = after_event b.pool e } → Goes b a []
 by-event e none kept b a is = near_by (near-one b a (pool_hears e none kept is))
 
-pub goes : (event : ForwarderEvent) (b a : ForwarderValue) → Happens event b a → Goes b a (octets_by event)
+pub goes : (event : ForwarderEvent) (b a : ForwarderValue) → Happens event b a → Goes b a (given_by event)
 goes (query_comes c octets now answered) b a h = near_by (query-near c octets now answered b a h)
 goes (query_is_refused now) b a h = by-event (time_passes now) refl tt b a (ap part h)
 goes (client_is_gone client) b a h = near_by (near-one b a (client_goes client (ap part h)))
-goes (octets_came channel octets now) b a h = octets_go (octets_come channel octets now) tt (ap part h)
-goes (fails_channel failure now) b a h = by-event (channel_fails failure now) refl tt b a (ap part h)
+goes (octets_came channel octets now) b a h = event_goes (octets_come channel octets now) tt (ap part h)
+goes (fails_channel failure now) b a h = event_goes (channel_fails failure now) tt (ap part h)
 goes (moment_comes now) b a h = by-event (time_passes now) refl tt b a (ap part h)
-goes (servers_are group servers) b a h = by-event (group_has group servers) refl tt b a (ap part h)
+goes (servers_are group servers) b a h = event_goes (group_has group servers) tt (ap part h)
 goes (local_data_is local) b a h = near_by (near-same b a (ap part h))
 goes (options_are options) b a h = near_by (near-same b a (ap part h))
 goes (name_is_flushed domain below) b a h = near_by (near-same b a (ap part h))

@@ -29,12 +29,12 @@ use Rattle.yimarotu_forwarder.specs.Steps.{telling_of}
 use Rattle.yimarotu_forwarder.specs.Telling.{one_more}
 use Rattle.yimarotu_forwarder_theorems.specs.Lookups.{IsHeard, ToldReply, WasHeard}
 use Rattle.yimarotu_forwarder_theorems.specs.Questions.{EachReplyIsToItsQuestion, IsFor}
-use Rattle.yimarotu_forwarder_theorems.specs.Runs.{Happening, Runs, at_first, next, octets_by}
+use Rattle.yimarotu_forwarder_theorems.specs.Runs.{Happening, Runs, at_first, next, given_by}
 use Rattle.yimarotu_forwarder_theorems.proofs.AskerLists.{AskersValue, HasNone, IsApart, IsLeft, all-both, all-inserted, all-last, all-mapped, found-all, in-at, left-without, none-any, none-inserted, once-inserted}
 use Rattle.yimarotu_forwarder_theorems.proofs.Askings.{IsAsking, IsOver, KeepsAskers, asking-later, event-of, given-now, once-over, over-later, over-now, told-for}
 use Rattle.yimarotu_forwarder_theorems.proofs.Cores.{Fetching}
 use Rattle.yimarotu_forwarder_theorems.proofs.Keys.{own-key, same-key}
-use Rattle.yimarotu_forwarder_theorems.proofs.Parts.{Asks, Goes, IsKept, Move, Moves, Part, as_before, asker_ends, asker_goes, asker_leads, client_goes, counts_one, fetch_asks, fetch_begins, fetch_changes, more, near_by, octets_go, part, pool_hears, pool_steps, told_all, turn_ends, turn_passes}
+use Rattle.yimarotu_forwarder_theorems.proofs.Parts.{Asks, Goes, IsKept, Move, Moves, Part, as_before, asker_ends, asker_goes, asker_leads, client_goes, counts_one, fetch_asks, fetch_begins, fetch_changes, more, near_by, event_goes, part, pool_hears, pool_steps, told_all, turn_ends, turn_passes}
 use Rattle.yimarotu_forwarder_theorems.proofs.Pools.{goes}
 
 -- ---- who asks for a look-up
@@ -461,10 +461,10 @@ module _ (options : PoolOptions) (limits : PoolLimits) (seed : List ℕ) where
           subst (IsOver (pool.did c.pool (Some (does.Over o)) ∷ h.past)) same
           (over-now options limits seed h.past c.pool h.runs q o steps)
 
-  goes-on : (b a : ForwarderValue) (came : List PoolEvent) → Goes b a came → Holds (part b) → Holds (part a)
-  goes-on b a came (near_by near) h = all-moved (part b) (part a) near h
-  goes-on b a came (octets_go e kept is) h = subst Holds (sym is) (heard-event (part b) e kept h)
-  goes-on b a came (pool_steps did steps is) h = subst Holds (sym is) (stepped (part b) a.pool did steps h)
+  goes-on : (b a : ForwarderValue) (given : List PoolEvent) → Goes b a given → Holds (part b) → Holds (part a)
+  goes-on b a given (near_by near) h = all-moved (part b) (part a) near h
+  goes-on b a given (event_goes e kept is) h = subst Holds (sym is) (heard-event (part b) e kept h)
+  goes-on b a given (pool_steps did steps is) h = subst Holds (sym is) (stepped (part b) a.pool did steps h)
 
   module _ (own : OptionsValue) (local : LocalValue) (cache failures : CacheBounds) where
     abbrev first : ForwarderValue
@@ -482,7 +482,7 @@ module _ (options : PoolOptions) (limits : PoolLimits) (seed : List ℕ) where
     holds : (past : List Happening) (s : ForwarderValue) → Runs first past s → Holds (part s)
     holds past s at_first = at-first
     holds past s (next earlier event before after happens runs) =
-        goes-on before after (octets_by event) (goes event before after happens) (holds earlier before runs)
+        goes-on before after (given_by event) (goes event before after happens) (holds earlier before runs)
 
     heard-right : (s : ForwarderValue) (r : ToldReply) (q : Query) (dnssec : Bool) → Holds (part s)
         → IsHeard s r q dnssec → IsFor r.question q dnssec

@@ -13,7 +13,7 @@ use Rattle.yimarotu_forwarder.specs.Forwarders.{ForwarderValue, new_forwarder}
 use Rattle.yimarotu_forwarder.specs.Local.{LocalValue}
 use Rattle.yimarotu_forwarder.specs.Options.{OptionsValue}
 use Rattle.yimarotu_forwarder_theorems.specs.Lookups.{ToldReply, WasTold}
-use Rattle.yimarotu_forwarder_theorems.specs.Runs.{Happening, Runs, octets_of_servers}
+use Rattle.yimarotu_forwarder_theorems.specs.Runs.{Happening, Runs, given_in}
 
 -- Among this, which happened to the pool, it said of a transaction for this question that it is over, with a reply that
 -- spells this message: octets that came on the channel on which the question was sent, and were believed as its reply.
@@ -25,12 +25,13 @@ pub record WasBelieved (start : PoolState) (past : List pool.Happening) (r : Tol
   pub believed : IsBelievedReply was_over.earlier over.transaction over.question over.outcome reply
   pub spells : reply.message ≡ Some r.message
 
--- The pool of a forwarder is one as the pool's own laws have it. The octets that came to it are those that came to the
--- forwarder from servers, and each reply that it told was believed.
+-- The pool of a forwarder is one as the pool's own laws have it. The servers of its groups, the octets that came to it,
+-- and the channels that failed, are those that the forwarder was told of, in their order; and each reply that the pool
+-- told was believed.
 pub record StandsOnPool (start : PoolState) (past : List Happening) (s : ForwarderValue) : Type 0 where
   pub pool_past : List pool.Happening
   pub runs : pool.Runs start pool_past s.pool
-  pub came : pool.octets_in pool_past ≡ octets_of_servers past
+  pub given : pool.given_in pool_past ≡ given_in past
   pub believed : (r : ToldReply) → WasTold past r → WasBelieved start pool_past r
 
 abbrev pub RepliesWereBelieved : Type 0

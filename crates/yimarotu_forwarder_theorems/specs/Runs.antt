@@ -61,12 +61,15 @@ pub data Runs (start : ForwarderValue) : List Happening → ForwarderValue → T
   next : (past : List Happening) (event : ForwarderEvent) (before after : ForwarderValue)
       → Happens event before after → Runs start past before → Runs start (happened event before after ∷ past) after
 
--- an event is that octets of a server come, as the pool is told, or it is none of these
-abbrev pub octets_by : ForwarderEvent → List PoolEvent
-octets_by (octets_come channel octets now) = pool.octets_come channel octets now ∷ []
-octets_by other = []
+-- an event is that octets of a server come, that a channel fails, or that a group has servers, as the pool is told; or it
+-- is none of these
+abbrev pub given_by : ForwarderEvent → List PoolEvent
+given_by (octets_come channel octets now) = pool.octets_come channel octets now ∷ []
+given_by (channel_fails failure now) = pool.channel_fails failure now ∷ []
+given_by (servers_are group servers) = pool.group_has group servers ∷ []
+given_by other = []
 
--- the octets that came from servers, each with its channel and its moment, the latest first
-abbrev pub octets_of_servers : List Happening → List PoolEvent
-octets_of_servers [] = []
-octets_of_servers (happened event before after ∷ past) = octets_by event ++ octets_of_servers past
+-- the octets that came from servers, the channels that failed, and the servers of its groups, the latest first
+abbrev pub given_in : List Happening → List PoolEvent
+given_in [] = []
+given_in (happened event before after ∷ past) = given_by event ++ given_in past

@@ -51,9 +51,9 @@ pub fn each_reply_is_to_its_question()
     ensures { EachReplyIsToItsQuestion }
 {}
 
-/// The pool of a forwarder is one as the pool's own laws have it, whatever happens, and the octets that came to it are
-/// those that came to the forwarder. Each reply that it told was believed: octets that came to it before on the channel
-/// on which its question was sent, and that spell it.
+/// The pool of a forwarder is one as the pool's own laws have it, whatever happens; and the servers of its groups, the
+/// octets that came to it, and the channels that failed, are those that the forwarder was told of. Each reply that it told
+/// was believed: octets that came to it before on the channel on which its question was sent, and that spell it.
 pub fn replies_were_believed()
     ensures { RepliesWereBelieved }
 {}

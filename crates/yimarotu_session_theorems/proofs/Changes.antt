@@ -24,7 +24,7 @@ use Rattle.hickory_resolver_pool.specs.declared.pool.Action.{Action}
 use Rattle.hickory_resolver_pool.specs.declared.pool.Action.TheVariants as pool_action
 use Rattle.hickory_resolver_pool.specs.declared.limits.PoolLimits.{PoolLimits}
 use Rattle.hickory_resolver_pool_theorems.specs.Handles.{IsReadOfOctets}
-use Rattle.hickory_resolver_pool_theorems.specs.Runs.{Happening, WasOver, did, octets_of}
+use Rattle.hickory_resolver_pool_theorems.specs.Runs.{Happening, WasOver, did, given_by}
 use Rattle.hickory_resolver_pool_theorems.proofs.Asked.{end-asks}
 use Rattle.hickory_resolver_pool_theorems.proofs.Overs.{told-at_end}
 use Rattle.hickory_resolver_pool_theorems.proofs.Told.{core_is_told_what_came}
@@ -73,7 +73,7 @@ module _ (resolver : ResolverValue (List OutcomeValue)) (limits : PoolLimits) (s
     After e = Kept resolver limits seed (e ∷ events) after
 
     -- nothing happened, or to the pool alone
-    nothing : (e : NetworkEvent) → network.octets_of e ≡ [] → EventTells (settings resolver) e k.calls [] k.calls → after ≡ s
+    nothing : (e : NetworkEvent) → network.given_by e ≡ [] → EventTells (settings resolver) e k.calls [] k.calls → after ≡ s
         → After e
     nothing e brings silent same =
         let table : after.table ≡ s.table = ap (λ (x : NetworkValue). x.table) same in
@@ -83,7 +83,7 @@ module _ (resolver : ResolverValue (List OutcomeValue)) (limits : PoolLimits) (s
         (ends-same [] s.table.lookups after.table.lookups (ap (λ (t : TableValue). t.lookups) table)))
         (asks-same resolver limits seed k.past s.table after.table table) (ap (λ (x : NetworkValue). x.telling) same)
 
-    to-pool-alone : (e : NetworkEvent) (happens : PoolEvent) → network.octets_of e ≡ octets_of happens
+    to-pool-alone : (e : NetworkEvent) (happens : PoolEvent) → network.given_by e ≡ given_by happens
         → EventTells (settings resolver) e k.calls [] k.calls → after ≡ with_pool (after_event s.pool happens) s → After e
     to-pool-alone e happens brings silent same =
         let p = pool-takes resolver limits seed events s k after happens (ap (λ (x : NetworkValue). x.pool) same) in
@@ -150,7 +150,7 @@ module _ (resolver : ResolverValue (List OutcomeValue)) (limits : PoolLimits) (s
     free-call : (n : ℕ) → held_at n s.table ≡ None → k.calls n ≡ []
     free-call n free = subst (λ (h : Option NetworkLookup). IsAsCall (k.calls n) h) free (k.as_calls n)
 
-    begun : (e : NetworkEvent) → network.octets_of e ≡ [] → (Comes : Does) (ahead : Option Ahead) (n now : ℕ)
+    begun : (e : NetworkEvent) → network.given_by e ≡ [] → (Comes : Does) (ahead : Option Ahead) (n now : ℕ)
         → ((past : List Happening) → Settled past ahead)
         → ((q : SecondQuestion) (a : Asker) → ahead ≡ Some (Waits q a) → ⊥)
         → ((past : List Happening) (p : CallProgress) → k.calls n ≡ [] → Puts-it n p → Unplaced n
@@ -260,7 +260,7 @@ module _ (resolver : ResolverValue (List OutcomeValue)) (limits : PoolLimits) (s
     without_entries r = record r { client = record r.client { cache = record r.client.cache { entries = [] } } }
 
     -- one event of the cache alone
-    cache-cleared : (e : NetworkEvent) → network.octets_of e ≡ [] → (told : CallEventValue)
+    cache-cleared : (e : NetworkEvent) → network.given_by e ≡ [] → (told : CallEventValue)
         → EventTells (settings resolver) e k.calls (told ∷ []) k.calls
         → IsFedFrom (first resolver limits seed) (options resolver limits seed) k.past told
         → (clear : Resolver → Resolver) (passes : Query → Bool)

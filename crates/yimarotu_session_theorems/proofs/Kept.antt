@@ -26,7 +26,7 @@ use Rattle.hickory_resolver_pool.specs.Over.{OverValue}
 use Rattle.hickory_resolver_pool.specs.Pool.{PoolState, Steps, no_servers}
 use Rattle.hickory_resolver_pool.specs.declared.pool.Action.{Action}
 use Rattle.hickory_resolver_pool.specs.declared.limits.PoolLimits.{PoolLimits}
-use Rattle.hickory_resolver_pool_theorems.specs.Runs.{Happening, Runs, WasOver, by_event, by_step, came, did, octets_in, octets_of}
+use Rattle.hickory_resolver_pool_theorems.specs.Runs.{Happening, Runs, WasOver, by_event, by_step, came, did, given_in, given_by}
 use Rattle.hickory_resolver_pool_theorems.specs.Runs as runs
 use Rattle.hickory_resolver_pool_theorems.proofs.Asked.{IsOwn, own-event, own-step}
 use Rattle.hickory_resolver_pool_theorems.proofs.Later.{over-grows}
@@ -339,7 +339,7 @@ module _ (resolver : ResolverValue (List OutcomeValue)) (limits : PoolLimits) (s
   pub record Kept (events : List NetworkEvent) (s : NetworkValue) : Type 0 where
     pub past : List Happening
     pub runs : Runs first past s.pool
-    pub came : octets_in past ≡ network.octets_in events
+    pub given : given_in past ≡ network.given_in events
     pub told : List CallEventValue
     pub calls : Calls
     pub tells : AreTold (settings resolver) events told calls
@@ -361,7 +361,7 @@ module _ (resolver : ResolverValue (List OutcomeValue)) (limits : PoolLimits) (s
   kept-first = record {
     past = [];
     runs = runs.at_first;
-    came = refl;
+    given = refl;
     told = [];
     calls = no_calls;
     tells = told_calls.at_first;
@@ -379,11 +379,11 @@ module _ (resolver : ResolverValue (List OutcomeValue)) (limits : PoolLimits) (s
     done = λ n found b there. let clash : None ≡ Some (Done found b) = there in absurd cc;
   }
 
-  -- the pool moved, or not, with these octets
-  pub record PoolMoves (octets : List PoolEvent) (past : List Happening) (before after : PoolState) : Type 0 where
+  -- the pool moved, or not, and was given this
+  pub record PoolMoves (given : List PoolEvent) (past : List Happening) (before after : PoolState) : Type 0 where
     pub later : List Happening
     pub runs : Runs first (later ++ past) after
-    pub come : octets_in (later ++ past) ≡ octets ++ octets_in past
+    pub given_is : given_in (later ++ past) ≡ given ++ given_in past
     pub asked : (question : PoolQuestion) (a : Asker) → IsAskedFor before question a → IsAskedFor after question a
 
   pub told-grows : (past more : List Happening) (before after : TableValue) (over : OverValue)
@@ -409,30 +409,30 @@ module _ (resolver : ResolverValue (List OutcomeValue)) (limits : PoolLimits) (s
     pool-stays same = record {
       later = [];
       runs = subst (λ (p : PoolState). Runs first k.past p) (sym same) k.runs;
-      come = refl;
+      given_is = refl;
       asked = λ q a h. subst (λ (p : PoolState). IsAskedFor p q a) (sym same) h;
     }
 
     abbrev pub pool-takes : (e : PoolEvent) → after.pool ≡ after_event s.pool e
-        → PoolMoves (octets_of e) k.past s.pool after.pool
+        → PoolMoves (given_by e) k.past s.pool after.pool
     pool-takes e same = record {
       later = came s.pool e ∷ [];
       runs = subst (λ (p : PoolState). Runs first (came s.pool e ∷ k.past) p) (sym same) (by_event k.past s.pool e k.runs);
-      come = refl;
+      given_is = refl;
       asked = λ q a h. subst (λ (p : PoolState). IsAskedFor p q a) (sym same)
           (record { list = h.list; asked = h.asked; same = h.same; own = own-event (h.list, h.asked) a.transaction s.pool e h.own });
     }
 
     -- two events, one after the other
     abbrev pub pool-takes-both : (e f : PoolEvent) → after.pool ≡ after_event (after_event s.pool e) f
-        → PoolMoves (octets_of f ++ octets_of e) k.past s.pool after.pool
+        → PoolMoves (given_by f ++ given_by e) k.past s.pool after.pool
     pool-takes-both e f same =
         let mid = after_event s.pool e in
         record {
           later = came mid f ∷ came s.pool e ∷ [];
           runs = subst (λ (p : PoolState). Runs first (came mid f ∷ came s.pool e ∷ k.past) p) (sym same)
               (by_event (came s.pool e ∷ k.past) mid f (by_event k.past s.pool e k.runs));
-          come = sym (append_assoc (octets_of f) (octets_of e) (octets_in k.past));
+          given_is = sym (append_assoc (given_by f) (given_by e) (given_in k.past));
           asked = λ q a h. subst (λ (p : PoolState). IsAskedFor p q a) (sym same)
               (record {
                 list = h.list;
@@ -446,7 +446,7 @@ module _ (resolver : ResolverValue (List OutcomeValue)) (limits : PoolLimits) (s
     pool-does r steps = record {
       later = did s.pool r ∷ [];
       runs = by_step k.past s.pool after.pool r steps k.runs;
-      come = refl;
+      given_is = refl;
       asked = λ q a h. record { list = h.list; asked = h.asked; same = h.same; own = own-step (h.list, h.asked) a.transaction s.pool after.pool r steps h.own };
     }
 
@@ -457,18 +457,18 @@ module _ (resolver : ResolverValue (List OutcomeValue)) (limits : PoolLimits) (s
         subst (λ (t : Option TellingValue). IsTelling (more ++ k.past) after.table t) (sym same)
         (telling-grows k.past more s.table after.table s.telling less k.telling)
 
-    pub asked-on : {octets : List PoolEvent} (p : PoolMoves octets k.past s.pool after.pool) → LookupsLess s.table.lookups after.table.lookups
+    pub asked-on : {given : List PoolEvent} (p : PoolMoves given k.past s.pool after.pool) → LookupsLess s.table.lookups after.table.lookups
         → AreAskedFor after.pool after.table.lookups
     asked-on p less n w a there = p.asked (question_with options w) a (k.asked n w a (less n w a there))
 
     -- what was asked ahead before is so after it
-    pub ahead-grows : {octets : List PoolEvent} (p : PoolMoves octets k.past s.pool after.pool) (x : Ahead) → IsAhead k.past s.pool x
+    pub ahead-grows : {given : List PoolEvent} (p : PoolMoves given k.past s.pool after.pool) (x : Ahead) → IsAhead k.past s.pool x
         → IsAhead (p.later ++ k.past) after.pool x
     ahead-grows p Nothing h = tt
     ahead-grows p (Waits q a) h = p.asked (question_for q.query) a h
     ahead-grows p (Told q outcome) h = from-grows first p.later k.past (question_for q) outcome h
 
-    pub ahead-on : {octets : List PoolEvent} (p : PoolMoves octets k.past s.pool after.pool) → PlacesLess (p.later ++ k.past) s.table.ahead after.table.ahead
+    pub ahead-on : {given : List PoolEvent} (p : PoolMoves given k.past s.pool after.pool) → PlacesLess (p.later ++ k.past) s.table.ahead after.table.ahead
         → AreAhead (p.later ++ k.past) after.pool after.table.ahead
     ahead-on p less n x there = by (less n x there)
       where
@@ -514,18 +514,18 @@ module _ (resolver : ResolverValue (List OutcomeValue)) (limits : PoolLimits) (s
             (d.later n q a there) (k.second n q a old)
         by (inr never) = absurd never
 
-    pub keeps : (e : NetworkEvent) {octets : List PoolEvent} (p : PoolMoves octets k.past s.pool after.pool)
-        → network.octets_of e ≡ octets → (d : Done-to e (p.later ++ k.past)) → AreAskedFor after.pool after.table.lookups
+    pub keeps : (e : NetworkEvent) {given : List PoolEvent} (p : PoolMoves given k.past s.pool after.pool)
+        → network.given_by e ≡ given → (d : Done-to e (p.later ++ k.past)) → AreAskedFor after.pool after.table.lookups
         → AreAhead (p.later ++ k.past) after.pool after.table.ahead → AreSecond d.calls after.table.ahead
         → IsTelling (p.later ++ k.past) after.table after.telling → Kept (e ∷ events) after
-    keeps e {octets} p brings d asked ahead second telling =
+    keeps e {given} p brings d asked ahead second telling =
         let past = p.later ++ k.past in
         let cache = s.resolver.client.cache in
         record {
           past = past;
           runs = p.runs;
-          came = p.come ∙ ap (λ (l : List PoolEvent). octets ++ l) k.came
-              ∙ ap (λ (l : List PoolEvent). l ++ network.octets_in events) (sym brings);
+          given = p.given_is ∙ ap (λ (l : List PoolEvent). given ++ l) k.given
+              ∙ ap (λ (l : List PoolEvent). l ++ network.given_in events) (sym brings);
           told = k.told ++ d.told;
           calls = d.calls;
           tells = told_calls.next events e k.told d.told k.calls d.calls d.tells k.tells;
@@ -546,8 +546,8 @@ module _ (resolver : ResolverValue (List OutcomeValue)) (limits : PoolLimits) (s
         }
 
     -- where no look-up is asked anew, and somebody is told as before
-    pub keeps-telling : (e : NetworkEvent) {octets : List PoolEvent} (p : PoolMoves octets k.past s.pool after.pool)
-        → network.octets_of e ≡ octets → Done-to e (p.later ++ k.past) → AsksLess (p.later ++ k.past) s.table after.table
+    pub keeps-telling : (e : NetworkEvent) {given : List PoolEvent} (p : PoolMoves given k.past s.pool after.pool)
+        → network.given_by e ≡ given → Done-to e (p.later ++ k.past) → AsksLess (p.later ++ k.past) s.table after.table
         → after.telling ≡ s.telling → Kept (e ∷ events) after
     keeps-telling e p brings d less same =
         keeps e p brings d (asked-on p less.lookups) (ahead-on p less.places)

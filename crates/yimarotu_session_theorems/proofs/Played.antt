@@ -45,7 +45,7 @@ module _ (resolver : ResolverValue (List OutcomeValue)) (limits : PoolLimits) (s
       record {
         past = k.past;
         pool_runs = k.runs;
-        came = k.came;
+        given = k.given;
         told = k.told;
         calls = k.calls;
         tells = k.tells;

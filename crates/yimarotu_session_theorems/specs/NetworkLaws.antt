@@ -33,7 +33,7 @@ use Rattle.yimarotu_session.specs.declared.network_lookup.NetworkLookup.{Network
 use Rattle.yimarotu_session.specs.declared.network_lookup.NetworkLookup.TheVariants.{Done}
 use Rattle.yimarotu_session.specs.declared.network_lookup.NetworkLookup.TheVariants as lookup
 use Rattle.yimarotu_session_theorems.specs.NetworkCalls.{AreTold, Calls, waits_now}
-use Rattle.yimarotu_session_theorems.specs.NetworkRuns.{NetworkEvent, NetworkRuns, octets_in}
+use Rattle.yimarotu_session_theorems.specs.NetworkRuns.{NetworkEvent, NetworkRuns, given_in}
 
 -- ---- what a look-up goes on with
 
@@ -130,15 +130,15 @@ AreAsCalls calls table = (number : ℕ) → IsAsCall (calls number) (held_at num
 -- table of hosts on: calls start, go on with what the pool told, and are dropped, and the cache is cleared. It is what
 -- the session's events tell, in their order, and each look-up is as the call that was begun last under its number. Of
 -- the resolver the cache alone has changed. Where it had no entries at first, each event keeps its promises, and so does
--- the reply of each call that is done. The pool is one as its own laws have it, and the octets that came to it are those
--- that came to the session.
+-- the reply of each call that is done. The pool is one as its own laws have it; and its servers, the octets that came to
+-- it, and the channels that failed, are those that the session was told of, in their order.
 pub record IsPlayedOver
     (resolver : ResolverValue (List OutcomeValue)) (limits : PoolLimits) (seed : List ℕ) (events : List NetworkEvent)
     (session : NetworkValue)
     : Type 0 where
   pub past : List Happening
   pub pool_runs : Runs (no_servers resolver.options limits seed) past session.pool
-  pub came : pool.octets_in past ≡ octets_in events
+  pub given : pool.given_in past ≡ given_in events
   pub told : List CallEventValue
   pub calls : Calls
   pub tells : AreTold (settings resolver) events told calls

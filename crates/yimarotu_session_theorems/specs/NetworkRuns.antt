@@ -43,12 +43,15 @@ pub data NetworkRuns (start : NetworkValue) : List NetworkEvent → NetworkValue
   next : (past : List NetworkEvent) (event : NetworkEvent) (before after : NetworkValue) → Happens event before after
       → NetworkRuns start past before → NetworkRuns start (event ∷ past) after
 
--- an event is that octets come, as the pool is told, or it is none of these
-abbrev pub octets_of : NetworkEvent → List PoolEvent
-octets_of (octets_come channel octets now) = pool.octets_come channel octets now ∷ []
-octets_of other = []
+-- an event is that octets come, that a channel fails, or that there are other servers, as the pool is told; or it is none
+-- of these
+abbrev pub given_by : NetworkEvent → List PoolEvent
+given_by (octets_come channel octets now) = pool.octets_come channel octets now ∷ []
+given_by (channel_fails failure now) = pool.channel_fails failure now ∷ []
+given_by (servers_are servers) = pool.group_has 0 servers ∷ []
+given_by other = []
 
--- the octets that came to a session, each with its channel and its moment, the latest first
-abbrev pub octets_in : List NetworkEvent → List PoolEvent
-octets_in [] = []
-octets_in (event ∷ past) = octets_of event ++ octets_in past
+-- the octets that came to a session, the channels that failed, and its servers, the latest first
+abbrev pub given_in : List NetworkEvent → List PoolEvent
+given_in [] = []
+given_in (event ∷ past) = given_by event ++ given_in past
