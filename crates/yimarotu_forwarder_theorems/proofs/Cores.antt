@@ -13,8 +13,6 @@ use Rattle.failure_replies.specs.declared.failure.FailureReason.TheVariants as r
 use Rattle.kept_failures.specs.declared.failure.KeptFailure.{KeptFailure}
 use Rattle.second_chance_cache.specs.Laws.{CacheEvent, after_event, stores}
 use Rattle.second_chance_cache.specs.SecondChance.{CacheValue, told}
-use Rattle.whole_lookups.specs.Capped.{capped}
-use Rattle.whole_lookups.specs.Denied.{without_denied}
 use Rattle.whole_lookups.specs.Lookups.{LookupValue, begun, heard, whole_with}
 use Rattle.whole_lookups.specs.declared.heard.Heard.TheVariants.{Asks, Whole}
 use Rattle.whole_lookups.specs.declared.choices.TheConstants.{MOST_QUESTIONS}
@@ -33,9 +31,9 @@ use Rattle.yimarotu_forwarder.specs.Leaving.{counts_without_fetches, counts_with
 use Rattle.yimarotu_forwarder.specs.Options.{OptionsValue}
 use Rattle.yimarotu_forwarder.specs.Prefetching.{key_dnssec}
 use Rattle.yimarotu_forwarder.specs.Replying.{end_of}
-use Rattle.yimarotu_forwarder.specs.Telling.{earlier_second, replying_of}
+use Rattle.yimarotu_forwarder.specs.Telling.{as_told, earlier_second, replying_of}
 use Rattle.yimarotu_forwarder.specs.declared.choices.TheConstants.{LONGEST_STALE}
-use Rattle.yimarotu_forwarder_theorems.specs.Lookups.{IsHeard, IsKnown, LastsTo, Storing, ToldReply, stored_so}
+use Rattle.yimarotu_forwarder_theorems.specs.Lookups.{HasOptions, IsHeard, IsKnown, LastsTo, Storing, ToldReply, stored_so}
 
 abbrev pub Fetching : Type 0
 Fetching = List (List ℕ × FetchValue)
@@ -80,15 +78,17 @@ stored-at q kept second s h = by (is_none (store_fault q kept)) h
 
 -- ---- changes in which nobody comes to wait, and nobody is replied to
 
--- what a step stands on: a reply that a look-up is told which has to ask this question, with DO or without; or what is
--- known here of a question at a second
+-- what a step stands on: a reply that a look-up is told which has to ask this question, with DO or without; what is
+-- known here of a question at a second; or the options at a second
 pub data Source : Type 0 where
   told_reply : ToldReply → Query → Bool → Source
   known_here : Query → KeptValue → ℕ → Source
+  options_at : OptionsValue → ℕ → Source
 
 abbrev pub IsSaid : ForwarderValue → Source → Type 0
 IsSaid b (told_reply r q dnssec) = IsHeard b r q dnssec
 IsSaid b (known_here q here second) = IsKnown b q here second
+IsSaid b (options_at options second) = HasOptions b options second
 
 -- a look-up that begins under a key
 abbrev pub IsBegun : List ℕ → LookupValue → Type 0
@@ -109,7 +109,7 @@ pub record IsLed (said : Source → Type 0) (before after : FetchValue) : Type 0
 
 -- a whole reply as it is stored
 abbrev pub end_so : Query → KeptValue → Storing → FetchEnd
-end_so q kept how = end_of q (capped how.greatest (without_denied how.allowed how.denied kept)) how.second
+end_so q kept how = end_of q (as_told q.name how.options kept) how.second
 
 -- what is kept of the question that a look-up has to ask, which few replies made, and what they made together
 pub record EndsByKept (cache : CacheValue CachedValue) (l : LookupValue) (most now : ℕ) (cached : CachedValue)
@@ -128,14 +128,15 @@ pub data IsEndOf (said : Source → Type 0) (cache : CacheValue CachedValue) (f 
     (end : FetchEnd) : Type 0 where
   has_failed : (why : FailureReason) → end ≡ Failure why → IsEndOf said cache f most end
   has_heard : (r : ToldReply) (kept : KeptValue) → said (told_reply r f.lookup.next f.lookup.dnssec)
-      → heard r.message f.lookup ≡ Whole kept → most ≡ f.lookup.count → (how : Storing) → how.second ≡ earlier_second f.heard r.second
+      → heard r.message f.lookup ≡ Whole kept → most ≡ f.lookup.count → (how : Storing)
+      → said (options_at how.options r.second) → how.second ≡ earlier_second f.heard r.second
       → end ≡ end_so f.lookup.asked kept how → IsEndOf said cache f most end
   is_known : (here : KeptValue) (now : ℕ) → said (known_here f.lookup.next here now)
-      → most ≡ min (f.lookup.count - 1 + 0) (2 ^ 32 - 1) → (how : Storing)
+      → most ≡ min (f.lookup.count - 1 + 0) (2 ^ 32 - 1) → (how : Storing) → said (options_at how.options now)
       → how.second ≡ earlier_second f.heard now → end ≡ end_so f.lookup.asked (whole_with here f.lookup) how
       → IsEndOf said cache f most end
   is_kept : (now : ℕ) (cached : CachedValue) → EndsByKept cache f.lookup most now cached → (how : Storing)
-      → how.second ≡ earlier_second f.heard now
+      → said (options_at how.options now) → how.second ≡ earlier_second f.heard now
       → end ≡ end_so f.lookup.asked (whole_with (aged (elapsed cached.reply now) cached.reply.kept) f.lookup) how
       → IsEndOf said cache f most end
 
@@ -148,6 +149,7 @@ pub record IsChainEnd (said : Source → Type 0) (e : ChainEndValue) : Type 0 wh
   pub keeps : kept_of question (key_dnssec e.key) reply.message ≡ Some kept
   pub ends : next_question question reply.message.message ≡ None
   pub how : Storing
+  pub had : said (options_at how.options reply.second)
   pub since : how.second ≡ reply.second
   pub stored : e.reply ≡ stored_so question kept how
 
@@ -259,10 +261,9 @@ Nothing x = ⊥
 end-said : {said : Source → Type 0} (cache : CacheValue CachedValue) (f : FetchValue) (most : ℕ) (end : FetchEnd)
     → IsEndOf Nothing cache f most end → IsEndOf said cache f most end
 end-said cache f most end (has_failed why is) = has_failed why is
-end-said cache f most end (has_heard r kept told whole many how since is) = absurd told
-end-said cache f most end (is_known here now known many how since is) = absurd known
-end-said cache f most end (is_kept now cached by-kept how since is) =
-    is_kept now cached by-kept how since is
+end-said cache f most end (has_heard r kept told whole many how had since is) = absurd told
+end-said cache f most end (is_known here now known many how had since is) = absurd known
+end-said cache f most end (is_kept now cached by-kept how had since is) = absurd had
 
 still-said : {said : Source → Type 0} (c d : Core) → Still Nothing c d → Still said c d
 still-said c d (cache_changes c' d' event such e) = cache_changes c d event such e

@@ -24,8 +24,6 @@ use Rattle.stored_replies.specs.Stored.{StoredValue, elapsed}
 use Rattle.stored_replies.specs.Told.{own_question}
 use Rattle.stored_replies.specs.declared.choices.TheConstants.{STALE_TTL}
 use Rattle.whole_lookups.proofs.InOrder.{asks_few_questions}
-use Rattle.whole_lookups.specs.Capped.{capped}
-use Rattle.whole_lookups.specs.Denied.{without_denied}
 use Rattle.whole_lookups.specs.Laws.{after_all, told_by, whole_of}
 use Rattle.whole_lookups.specs.Lookups.{LookupValue, after, after_of, begun, gone_on, heard, may_go_on, outcome_of, whole_with}
 use Rattle.whole_lookups.specs.declared.choices.TheConstants.{MOST_QUESTIONS}
@@ -37,7 +35,7 @@ use Rattle.yimarotu_forwarder.specs.Fetches.{FetchValue, fetch_in}
 use Rattle.yimarotu_forwarder.specs.Flushing.{is_flushed as is_flushed_key}
 use Rattle.yimarotu_forwarder.specs.Forwarders.{ChainEndValue, ForwarderValue, ReplyingValue, new_forwarder, second_of}
 use Rattle.yimarotu_forwarder.specs.Late.{late_replying, with_nobody}
-use Rattle.yimarotu_forwarder.specs.Telling.{earlier_second, replies_of, replying_of}
+use Rattle.yimarotu_forwarder.specs.Telling.{as_told, earlier_second, replies_of, replying_of}
 use Rattle.yimarotu_forwarder.specs.declared.choices.TheConstants.{LONGEST_STALE}
 use Rattle.yimarotu_forwarder.specs.Leaving.{fetch_without, replying_without}
 use Rattle.yimarotu_forwarder.specs.Local.{LocalValue}
@@ -45,9 +43,9 @@ use Rattle.yimarotu_forwarder.specs.NextQuestions.{asked_octets}
 use Rattle.yimarotu_forwarder.specs.Options.{OptionsValue, stale_seconds}
 use Rattle.yimarotu_forwarder.specs.Prefetching.{key_dnssec}
 use Rattle.yimarotu_forwarder.specs.Stale.{if_stale, stale_in}
-use Rattle.yimarotu_forwarder_theorems.specs.Lookups.{AnswersAreOfReplies, AreHeard, HasShortTtl, HeardReplies, IsAnswer, IsKeptAnswer, IsMadeOf, IsStaleAnswer, AreSince, LastsTo, StaleAnswersAreOfReplies, Storing, ToldReply, WasHeard, WasKnown, WasTold, by_kept_end, by_local_data, by_servers, messages, stored_so}
+use Rattle.yimarotu_forwarder_theorems.specs.Lookups.{AnswersAreOfReplies, AreHeard, HadOptions, HasShortTtl, HeardReplies, IsAnswer, IsKeptAnswer, IsMadeOf, IsStaleAnswer, AreSince, LastsTo, StaleAnswersAreOfReplies, Storing, ToldReply, WasHeard, WasKnown, WasTold, by_kept_end, by_local_data, by_servers, messages, stored_so}
 use Rattle.yimarotu_forwarder_theorems.specs.Runs.{ForwarderEvent, Happening, Runs, at_first, happened, next}
-use Rattle.yimarotu_forwarder_theorems.proofs.Cores.{Core, Fetching, IsBegun, IsChainEnd, IsEndOf, IsLed, IsSaid, IsThatOf, Joins, Leaves, Puts, Source, Still, Stills, StoresEnd, as_before, begins_alone, cache_changes, chain_ends, core, end_so, failures_change, has_failed, has_heard, is_flushed, is_heard, is_kept, is_known, is_let_go, is_over, is_told_late, known_here, left_by, more, no_chain_ends, stored-at, told_reply}
+use Rattle.yimarotu_forwarder_theorems.proofs.Cores.{Core, Fetching, IsBegun, IsChainEnd, IsEndOf, IsLed, IsSaid, IsThatOf, Joins, Leaves, Puts, Source, Still, Stills, StoresEnd, as_before, begins_alone, cache_changes, chain_ends, core, end_so, failures_change, has_failed, has_heard, is_flushed, is_heard, is_kept, is_known, is_let_go, is_over, is_told_late, known_here, left_by, more, no_chain_ends, options_at, stored-at, told_reply}
 use Rattle.yimarotu_forwarder_theorems.proofs.Events.{EventMoves, event_goes, event_joins, event_leaves, event_options, event_stays, moves}
 use Rattle.yimarotu_forwarder_theorems.proofs.Afters.{after-keeps}
 use Rattle.yimarotu_forwarder_theorems.proofs.Keys.{same-key}
@@ -210,6 +208,7 @@ module _ (past : List Happening) where
   abbrev Was : Source → Type 0
   Was (told_reply r q dnssec) = WasHeard past r q dnssec
   Was (known_here q here second) = WasKnown past q here second
+  Was (options_at options second) = HadOptions past options second
 
   -- of the look-up that those before led to
   heard-next : (dnssec : Bool) (l : LookupValue) (noted : Option ℕ) (r : IsReached dnssec l noted) (x : ToldReply)
@@ -287,7 +286,7 @@ module _ (past : List Happening) where
       (kept : KeptValue) (how : Storing) (end : FetchEnd) (s : StoredValue) → end ≡ end_so l.asked kept how
       → end ≡ Reply s → s ≡ stored_so r.question kept how
   stored-asked dnssec l noted r kept how end s is h =
-      stored-at l.asked (capped how.greatest (without_denied how.allowed how.denied kept)) how.second s (sym is ∙ h)
+      stored-at l.asked (as_told l.asked.name how.options kept) how.second s (sym is ∙ h)
       ∙ ap (λ (q : Query). stored_so q kept how) r.asked
 
   ended-so : {said : Source → Type 0} (dnssec : Bool) (cache : CacheValue CachedValue) (f : FetchValue) (most : ℕ)
@@ -296,7 +295,7 @@ module _ (past : List Happening) where
       → IsCounted dnssec s most
   ended-so dnssec cache f most end s tells r all (has_failed why is) h =
       let clash : Failure why ≡ Reply s = sym is ∙ h in absurd cc
-  ended-so dnssec cache f most end s tells r all (has_heard m kept said-so heard-it many how since is) h =
+  ended-so dnssec cache f most end s tells r all (has_heard m kept said-so heard-it many how had since is) h =
       let ms = messages r.replies in
       let again : heard m.message (after_all (begun r.question dnssec) ms) ≡ Whole kept =
       ap (heard m.message) (sym r.reached) ∙ heard-it in
@@ -312,15 +311,15 @@ module _ (past : List Happening) where
           length-append r.replies (m ∷ []),
         );
         most_are_few = omega (arith, many, few-reached dnssec f.lookup f.heard r);
-        made = by_servers r.question (r.replies ++ m ∷ []) kept how s
-            (heard-next dnssec f.lookup f.heard r m was)
+        made = by_servers r.question r.replies m kept how s (heard-next dnssec f.lookup f.heard r m was)
             (ap (whole_of (begun r.question dnssec)) (messages-behind r.replies m) ∙ whole)
+            (tells (options_at how.options m.second) had)
             (one-behind (λ (x : ToldReply). how.second ≤ x.second) r.replies m
             (since-all how.second f.heard m.second r.replies since r.since)
             (since-now how.second f.heard m.second since))
             (stored-asked dnssec f.lookup f.heard r kept how end s is h);
       }
-  ended-so dnssec cache f most end s tells r all (is_known here now known many how since is) h = record {
+  ended-so dnssec cache f most end s tells r all (is_known here now known many how had since is) h = record {
     replies = r.replies;
     told = r.told;
     few = omega (
@@ -332,12 +331,12 @@ module _ (past : List Happening) where
     most_are_few = omega (arith, many, few-reached dnssec f.lookup f.heard r);
     made = by_local_data r.question r.replies here now how s r.in_turn
         (subst (λ (x : LookupValue). WasKnown past x.next here now) r.reached
-        (tells (known_here f.lookup.next here now) known)) (since-now how.second f.heard now since)
-        (since-all how.second f.heard now r.replies since r.since)
+        (tells (known_here f.lookup.next here now) known)) (tells (options_at how.options now) had)
+        (since-now how.second f.heard now since) (since-all how.second f.heard now r.replies since r.since)
         (stored-asked dnssec f.lookup f.heard r (whole_with here f.lookup) how end s is h
         ∙ ap (λ (x : LookupValue). stored_so r.question (whole_with here x) how) r.reached);
   }
-  ended-so dnssec cache f most end s tells r all (is_kept now cached by-kept how since is) h =
+  ended-so dnssec cache f most end s tells r all (is_kept now cached by-kept how had since is) h =
       let found = told-kept IsKeptCounted by-kept.key now cache.entries cached all by-kept.found in
       let last = subst (λ (d : Bool). IsCounted d cached.reply cached.replies)
       (by-kept.alike ∙ dnssec-reached dnssec f.lookup f.heard r) found.1.counted in
@@ -356,7 +355,7 @@ module _ (past : List Happening) where
         );
         most_are_few = omega (arith, by-kept.many, by-kept.few, count-reached dnssec f.lookup f.heard r);
         made = by_kept_end r.question r.replies last.replies cached.reply now how s r.in_turn last.made lasts
-            (since-now how.second f.heard now since) (since-all how.second f.heard now r.replies since r.since)
+            (tells (options_at how.options now) had) (since-now how.second f.heard now since) (since-all how.second f.heard now r.replies since r.since)
             (subst (λ (x : LookupValue). is_same_question (asked_octets x.next) (own_question cached.reply) ≡ true)
             r.reached by-kept.same)
             (stored-asked dnssec f.lookup f.heard r (whole_with here f.lookup) how end s is h
@@ -373,12 +372,12 @@ module _ (past : List Happening) where
         told = (heard-told past c.reply c.question (key_dnssec e.key) was, tt);
         few = omega arith;
         most_are_few = omega arith;
-        made = by_servers c.question (c.reply ∷ []) c.kept c.how e.reply (was, tt)
+        made = by_servers c.question [] c.reply c.kept c.how e.reply (was, tt)
             (ap (λ (h : Heard). told_by h [] None)
             (ap (λ (k : Option KeptValue).
             outcome_of k (next_question c.question c.reply.message.message) (begun c.question (key_dnssec e.key))) c.keeps
             ∙ ap (λ (q : Option Query). outcome_of (Some c.kept) q (begun c.question (key_dnssec e.key))) c.ends))
-            (omega (arith, c.since), tt) c.stored;
+            (tells (options_at c.how.options c.reply.second) c.had) (omega (arith, c.since), tt) c.stored;
       }
 
   -- ---- all of it
@@ -619,16 +618,22 @@ known-later : (h : Happening) (past : List Happening) (q : Query) (here : KeptVa
     → WasKnown past q here second → WasKnown (h ∷ past) q here second
 known-later (happened event b a) past q here second was = inr was
 
+had-later : (h : Happening) (past : List Happening) (options : OptionsValue) (second : ℕ)
+    → HadOptions past options second → HadOptions (h ∷ past) options second
+had-later (happened event b a) past options second was = inr was
+
 made-later : (h : Happening) (past : List Happening) (dnssec : Bool) (rs : Replies) (s : StoredValue)
     → IsMadeOf past dnssec rs s → IsMadeOf (h ∷ past) dnssec rs s
-made-later h past dnssec rs s (by_servers q rs' kept how s' in_turn whole since is) =
-    by_servers q rs kept how s (heard-before h past (begun q dnssec) rs in_turn) whole since is
-made-later h past dnssec rs s (by_local_data q rs' here second how s' in_turn known early since is) =
+made-later h past dnssec rs s (by_servers q rs' last kept how s' in_turn whole had since is) =
+    by_servers q rs' last kept how s (heard-before h past (begun q dnssec) (rs' ++ last ∷ []) in_turn) whole
+    (had-later h past how.options last.second had) since is
+made-later h past dnssec rs s (by_local_data q rs' here second how s' in_turn known had early since is) =
     by_local_data q rs here second how s (heard-before h past (begun q dnssec) rs in_turn)
-    (known-later h past (after_all (begun q dnssec) (messages rs)).next here second known) early since is
-made-later h past dnssec rs s (by_kept_end q first last end second how s' in_turn made lasts early since same is) =
+    (known-later h past (after_all (begun q dnssec) (messages rs)).next here second known)
+    (had-later h past how.options second had) early since is
+made-later h past dnssec rs s (by_kept_end q first last end second how s' in_turn made lasts had early since same is) =
     by_kept_end q first last end second how s (heard-before h past (begun q dnssec) first in_turn)
-    (made-later h past dnssec last end made) lasts early since same is
+    (made-later h past dnssec last end made) lasts (had-later h past how.options second had) early since same is
 
 reached-later : (h : Happening) (past : List Happening) (dnssec : Bool) (l : LookupValue) (noted : Option ℕ)
     → IsReached past dnssec l noted → IsReached (h ∷ past) dnssec l noted
@@ -701,6 +706,7 @@ said-now : (event : ForwarderEvent) (b a : ForwarderValue) (past : List Happenin
     → Was (happened event b a ∷ past) x
 said-now event b a past (told_reply r q dnssec) says = inl says
 said-now event b a past (known_here q here second) says = inl says
+said-now event b a past (options_at options second) says = inl says
 
 event-sound : (past : List Happening) (event : ForwarderEvent) (b a : ForwarderValue)
     → ((x : Source) → IsSaid b x → Was past x) → EventMoves event b a → IsSound past (core b)

@@ -24,8 +24,6 @@ use Rattle.second_chance_cache.specs.SecondChance.{Entry, stored, told, without}
 use Rattle.stored_replies.specs.Key.{is_same_question}
 use Rattle.stored_replies.specs.Stored.{StoredValue, elapsed, is_readable, weight_of}
 use Rattle.stored_replies.specs.Told.{own_question}
-use Rattle.whole_lookups.specs.Capped.{capped}
-use Rattle.whole_lookups.specs.Denied.{without_denied}
 use Rattle.whole_lookups.specs.Lookups as whole
 use Rattle.whole_lookups.specs.Lookups.{LookupValue, after_of, gone_on, heard, may_go_on, outcome_of, whole_with}
 use Rattle.whole_lookups.specs.declared.choices.TheConstants.{MOST_QUESTIONS}
@@ -41,7 +39,7 @@ use Rattle.yimarotu_forwarder.specs.LookingUp.{after_ask, pool_question, pool_sa
 use Rattle.yimarotu_forwarder.specs.Cached.{CachedValue, if_told}
 use Rattle.yimarotu_forwarder.specs.NextQuestions.{are_denied_alike, as_end, asked_octets, asked_where, ended_by, found_end, if_may_end, is_fresh_and_light, kept_under, may_end, next_key, with_asked_where}
 use Rattle.yimarotu_forwarder.specs.Prefetching.{AsksLone, BeginsLoneBy, DecidesLone, Prefetches, PrefetchesWhere, key_dnssec, key_query, key_unchecked, lone_fetch, may_prefetch, without_prefetch}
-use Rattle.yimarotu_forwarder.specs.Options.{OptionsValue, denied_for}
+use Rattle.yimarotu_forwarder.specs.Options.{OptionsValue}
 use Rattle.yimarotu_forwarder.specs.Stale.{kept_until, told_end}
 use Rattle.yimarotu_forwarder.specs.Telling.{EndsFetch, Finishes, Hears, Tells, TellsAsker, TellsFetch, TellsKey, TellsNext, as_told, chain_end_for, chain_end_in, chain_end_of, chain_end_with, counts_asker, earlier_second, ends_chain, failures_after, first_second, forgets_asker, heard_after, heard_so, is_noted, lookup_after, reason_of, response_of, told_of, whole_end, with_end}
 use Rattle.yimarotu_forwarder.specs.declared.choices.TheConstants.{LONGEST_STALE}
@@ -51,7 +49,7 @@ use Rattle.yimarotu_forwarder_theorems.specs.Lookups.{IsKnown, LastsTo, Storing,
 use Rattle.yimarotu_forwarder_theorems.proofs.Afters.{after-keeps}
 use Rattle.yimarotu_forwarder_theorems.proofs.KeptValues.{told-asked-any}
 use Rattle.yimarotu_forwarder_theorems.proofs.Keys.{next-dnssec}
-use Rattle.yimarotu_forwarder_theorems.proofs.Cores.{Core, EndsByKept, IsChainEnd, IsEndOf, IsSaid, IsSame, Leaves, Source, Still, Stills, StoresChainEnd, StoresTold, as_before, begins_alone, cache_changes, chain_ends, core, end_so, failures_change, has_failed, has_heard, is_heard, is_kept, is_known, is_let_go, is_over, is_told_late, known_here, more, no_chain_ends, still-one, stills-then, stored-at, told_reply}
+use Rattle.yimarotu_forwarder_theorems.proofs.Cores.{Core, EndsByKept, IsChainEnd, IsEndOf, IsSaid, IsSame, Leaves, Source, Still, Stills, StoresChainEnd, StoresTold, as_before, begins_alone, cache_changes, chain_ends, core, end_so, failures_change, has_failed, has_heard, is_heard, is_kept, is_known, is_let_go, is_over, is_told_late, known_here, more, no_chain_ends, options_at, still-one, stills-then, stored-at, told_reply}
 
 -- ---- lists
 
@@ -137,12 +135,7 @@ ends-fetch {said} key end f g b a none found same is h =
 
 -- as what a look-up came to is stored
 abbrev storing : FetchValue → ForwarderValue → Storing
-storing f b = record {
-  allowed = b.options.allowed;
-  denied = denied_for f.lookup.asked.name b.options;
-  greatest = b.options.greatest_ttl;
-  second = first_second f b;
-}
+storing f b = record { options = b.options; second = first_second f b }
 
 -- ---- the end of a chain
 
@@ -151,40 +144,42 @@ led-to f = f.lookup.next
 
 -- as it is stored
 abbrev keeping : FetchValue → ForwarderValue → Storing
-keeping f b = record {
-  allowed = b.options.allowed;
-  denied = denied_for (led-to f).name b.options;
-  greatest = b.options.greatest_ttl;
-  second = second_of b;
-}
+keeping f b = record { options = b.options; second = second_of b }
 
 -- a reply that is told now
 abbrev pub told-now : OverValue → WireMessage → ForwarderValue → ToldReply
 told-now over m b = record { message = m; question = over.question; second = second_of b }
 
+abbrev pub SaysOptions : (Source → Type 0) → ForwarderValue → Type 0
+SaysOptions said b = said (options_at b.options (second_of b))
+
 -- the look-up for which an asker asks is told it
 abbrev pub SaysTo : (Source → Type 0) → OverValue → ℕ → ForwarderValue → Type 0
 SaysTo said over asker b =
-    (key : List ℕ) (f : FetchValue) (m : WireMessage) → asked_for asker b.fetches ≡ Some key
+    SaysOptions said b
+    × ((key : List ℕ) (f : FetchValue) (m : WireMessage) → asked_for asker b.fetches ≡ Some key
     → fetch_at key b.fetches ≡ Some f → response_of over ≡ Some m
-    → said (told_reply (told-now over m b) f.lookup.next f.lookup.dnssec)
+    → said (told_reply (told-now over m b) f.lookup.next f.lookup.dnssec))
 
 -- the asker whose turn it is
 abbrev pub SaysNext : (Source → Type 0) → TellingValue → ForwarderValue → Type 0
 SaysNext said t b = (asker : ℕ) → slice_get t.over.askers t.told ≡ Some asker → SaysTo said t.over asker b
 
 pub says-next : (t : TellingValue) (b : ForwarderValue) → b.telling ≡ Some t → SaysNext (IsSaid b) t b
-says-next t b is asker turn key f m own there told = record {
-  telling = (t, is, told, refl, refl);
-  asker = asker;
-  has_turn = turn;
-  key = key;
-  asks_for = own;
-  fetch = f;
-  goes_on = there;
-  question = refl;
-  with_do = refl;
-}
+says-next t b is asker turn = (
+  (refl, refl),
+  λ key f m own there told. record {
+    telling = (t, is, told, refl, refl);
+    asker = asker;
+    has_turn = turn;
+    key = key;
+    asks_for = own;
+    fetch = f;
+    goes_on = there;
+    question = refl;
+    with_do = refl;
+  },
+)
 
 no-next : (f : FetchValue) (m : WireMessage) (o : Option Query) → next_question (led-to f) m.message ≡ o
     → is_none o ≡ true → next_question (led-to f) m.message ≡ None
@@ -192,7 +187,8 @@ no-next f m None is none = is
 no-next f m (Some q) is none = absurd cc
 
 module _ {said : Source → Type 0} (over : OverValue) (b : ForwarderValue) (e : ChainEndValue) (f : FetchValue)
-    (m : WireMessage) (told-so : said (told_reply (told-now over m b) f.lookup.next f.lookup.dnssec)) where
+    (m : WireMessage) (had : SaysOptions said b)
+    (told-so : said (told_reply (told-now over m b) f.lookup.next f.lookup.dnssec)) where
   with-key : (kept : KeptValue) → kept_of (led-to f) f.lookup.dnssec m ≡ Some kept
       → next_question (led-to f) m.message ≡ None → (key : Option (List ℕ)) → next_key f ≡ key → (end : FetchEnd)
       → end_so (led-to f) kept (keeping f b) ≡ end → chain_end_with key end f.generation ≡ Some e → IsChainEnd said e
@@ -210,15 +206,14 @@ module _ {said : Source → Type 0} (over : OverValue) (b : ForwarderValue) (e :
         keeps = ap (λ (d : Bool). kept_of (led-to f) d m) asks ∙ keeps;
         ends = ends;
         how = keeping f b;
+        had = had;
         since = refl;
         stored = sym same
-            ∙ stored-at (led-to f) (capped (keeping f b).greatest (without_denied (keeping f b).allowed (keeping f b).denied kept))
-            (keeping f b).second r is;
+            ∙ stored-at (led-to f) (as_told (led-to f).name b.options kept) (second_of b) r is;
       }
 
   of-kept : (k : Option KeptValue) → kept_of (led-to f) f.lookup.dnssec m ≡ k → next_question (led-to f) m.message ≡ None
       → option_and_then (chain_end_of f b) k ≡ Some e → IsChainEnd said e
-  unfolding as_told
   of-kept None keeps ends h = absurd cc
   of-kept (Some kept) keeps ends h =
       with-key kept keeps ends (next_key f) refl (end_so (led-to f) kept (keeping f b)) refl h
@@ -240,7 +235,7 @@ is-chain-end {said} over asker b e says h = by (response_of over) refl h
         → option_and_then (λ f. chain_end_in f b m) o ≡ Some e → IsChainEnd said e
     by-fetch m is key own None there h = absurd cc
     by-fetch m is key own (Some f) there h =
-        in-chain over b e f m (says key f m own there is) (ends_chain f m) refl h
+        in-chain over b e f m says.0 (says.1 key f m own there is) (ends_chain f m) refl h
 
     by-key : (m : WireMessage) → response_of over ≡ Some m → (o : Option (List ℕ)) → asked_for asker b.fetches ≡ o
         → option_and_then (λ key. option_and_then (λ f. chain_end_in f b m) (fetch_at key b.fetches)) o ≡ Some e
@@ -298,12 +293,11 @@ heard-same over second f = record { waiting = refl; asked = by (response_of over
 hears-so : {said : Source → Type 0}
     (over : OverValue) (key : List ℕ) (f g : FetchValue) (b a : ForwarderValue) → b.replying ≡ None
     → fetch_at key b.fetches ≡ Some f → IsSame f g → g.lookup ≡ lookup_after over f
-    → g.heard ≡ heard_after (told_of over f) (second_of b) f.heard
+    → g.heard ≡ heard_after (told_of over f) (second_of b) f.heard → SaysOptions said b
     → ((m : WireMessage) → response_of over ≡ Some m
     → said (told_reply (told-now over m b) f.lookup.next f.lookup.dnssec))
     → Hears (told_of over f) key g b a → Stills said (core b) (core a)
-unfolding as_told
-hears-so {said} over key f g b a none found same led since says h = by (response_of over) refl
+hears-so {said} over key f g b a none found same led since had says h = by (response_of over) refl
   where
     after-reply : (m : WireMessage) → response_of over ≡ Some m → lookup_after over f ≡ whole.after m f.lookup
     after-reply m is = ap (λ (o : Option WireMessage). option_map_or (λ x. whole.after x f.lookup) o f.lookup) is
@@ -328,7 +322,8 @@ hears-so {said} over key f g b a none found same led since says h = by (response
         ends-fetch key (whole_end kept g b) f g b a none found same
         (has_heard (told-now over m b) kept (says m is) how
         (ap (λ (l : LookupValue). l.count) (led ∙ after-reply m is) ∙ whole-count m f.lookup kept how)
-        (storing g b) (ap (λ (o : Option ℕ). earlier_second o (second_of b)) first) (ap (λ (q : Query). end_so q kept (storing g b)) same.asked))
+        (storing g b) had (ap (λ (o : Option ℕ). earlier_second o (second_of b)) first)
+        (ap (λ (q : Query). end_so q kept (storing g b)) same.asked))
         ends
     by-heard m is heard_as.Fails how =
         let ends = rw (is, how) at h in
@@ -352,7 +347,7 @@ tells-asker {said} over asker b a none says h = by (asked_for asker b.fetches) r
     by-key key own None is h = as_before (core b) (core a) (ap core h)
     by-key key own (Some f) is h =
         hears-so over key f (heard_so over (second_of b) f) (forgets_asker asker b) a none is
-        (heard-same over (second_of b) f) refl refl (λ m told. says key f m own is told) h
+        (heard-same over (second_of b) f) refl refl says.0 (λ m told. says.1 key f m own is told) h
 
     by : (o : Option (List ℕ)) → asked_for asker b.fetches ≡ o → MatchOption o (a ≡ b) (TellsKey over asker b a)
         → Stills said (core b) (core a)
@@ -458,15 +453,14 @@ asks-by {said} asked.NoServers key f b a none found h =
 
 asks-or : {said : Source → Type 0}
     (what : Decision) (key : List ℕ) (f : FetchValue) (b a : ForwarderValue) → b.replying ≡ None
-    → fetch_at key b.fetches ≡ Some f
+    → fetch_at key b.fetches ≡ Some f → SaysOptions said b
     → ((here : KeptValue) → what ≡ decision.Answer here → said (known_here f.lookup.next here (second_of b)))
     → AsksOr what key f b a → Stills said (core b) (core a)
-unfolding as_told
-asks-or {said} (decision.Answer kept) key f b a none found knows h =
+asks-or {said} (decision.Answer kept) key f b a none found had knows h =
     ends-fetch key (whole_end (whole_with kept f.lookup) f b) f (ended_by 0 f) b a none found
     (record { waiting = refl; asked = refl })
-    (is_known kept (second_of b) (knows kept refl) refl (storing f b) refl refl) h
-asks-or {said} (decision.Ask group) key f b a none found knows h = by (found_end f b) refl h
+    (is_known kept (second_of b) (knows kept refl) refl (storing f b) had refl refl) h
+asks-or {said} (decision.Ask group) key f b a none found had knows h = by (found_end f b) refl h
   where
     asks : AsksPool group key f b a → Stills said (core b) (core a)
     asks h = asks-by (pool_says group (asks_with f b) b) key f (after_ask group (asks_with f b) b) a none found h
@@ -483,7 +477,7 @@ asks-or {said} (decision.Ask group) key f b a none found knows h = by (found_end
         stills-then (core b) (core marked) (core a) (marks (next_key f) b)
         (ends-fetch key (whole_end (whole_with here f.lookup) f b) f (ended_by cached.replies f) marked a none
         found (record { waiting = refl; asked = refl })
-        (is_kept (second_of b) cached (ends-by-marked f b cached is) (storing f b) refl refl) h)
+        (is_kept (second_of b) cached (ends-by-marked f b cached is) (storing f b) had refl refl) h)
 
     by : (o : Option CachedValue) → found_end f b ≡ o
         → MatchOption (option_and_then (as_end b) o) (AsksPool group key f b a)
@@ -503,7 +497,7 @@ asks-for key b a none h = by (fetch_at key b.fetches) refl h
     by : (o : Option FetchValue) → fetch_at key b.fetches ≡ o
         → MatchOption o (a ≡ has_turn b) (AsksNext key (has_turn b) a) → Stills (IsSaid b) (core b) (core a)
     by None is h = as_before (core b) (core a) (ap core h)
-    by (Some f) is h = asks-or h.found key f (has_turn b) a none is (knows f h.found h.decided) h.asks
+    by (Some f) is h = asks-or h.found key f (has_turn b) a none is (refl, refl) (knows f h.found h.decided) h.asks
 
 -- ---- a reply
 

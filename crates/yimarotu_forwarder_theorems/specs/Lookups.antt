@@ -3,7 +3,6 @@ use Rattle.std.specs.Prelude.{◌≡◌, ◌⊎◌, ℕ, ◌+◌, ◌<◌, ◌�
 use Rattle.std.specs.List.{AllByRecursion}
 use Rattle.hickory_proto_core.specs.Records.{RecordValue}
 use Rattle.hickory_proto_core.specs.declared.query.Query.{Query}
-use Rattle.hickory_proto_names.specs.declared.ip.IpNet.{IpNet}
 use Rattle.hickory_proto_wire.specs.declared.wire_message.WireMessage.{WireMessage}
 use Rattle.hickory_resolver_pool.specs.Pool.{PoolState}
 use Rattle.hickory_resolver_tries.specs.declared.pool_question.PoolQuestion.{PoolQuestion}
@@ -15,8 +14,6 @@ use Rattle.stored_replies.specs.Key.{is_same_question}
 use Rattle.stored_replies.specs.Stale.{stale_of}
 use Rattle.stored_replies.specs.Stored.{StoredValue, elapsed, stored_at}
 use Rattle.stored_replies.specs.Told.{own_question}
-use Rattle.whole_lookups.specs.Capped.{capped}
-use Rattle.whole_lookups.specs.Denied.{without_denied}
 use Rattle.whole_lookups.specs.Laws.{after_all, whole_of}
 use Rattle.whole_lookups.specs.Lookups.{LookupValue, after, begun, whole_with}
 use Rattle.whole_lookups.specs.declared.choices.TheConstants.{MOST_QUESTIONS}
@@ -29,7 +26,7 @@ use Rattle.yimarotu_forwarder.specs.NextQuestions.{asked_octets}
 use Rattle.yimarotu_forwarder.specs.Options.{OptionsValue, stale_seconds}
 use Rattle.yimarotu_forwarder.specs.Prefetching.{key_dnssec}
 use Rattle.yimarotu_forwarder.specs.Stale.{stale_in}
-use Rattle.yimarotu_forwarder.specs.Telling.{response_of}
+use Rattle.yimarotu_forwarder.specs.Telling.{as_told, response_of}
 use Rattle.yimarotu_forwarder.specs.declared.choices.TheConstants.{LONGEST_STALE}
 use Rattle.yimarotu_forwarder_theorems.specs.Runs.{Happening, Runs, happened}
 
@@ -90,6 +87,17 @@ WasKnown [] q here second = ⊥
 WasKnown (happened event before after ∷ past) q here second =
     IsKnown before q here second ⊎ WasKnown past q here second
 
+-- ---- its options
+
+abbrev pub HasOptions : ForwarderValue → OptionsValue → ℕ → Type 0
+HasOptions s options second = (second ≡ second_of s) × (options ≡ s.options)
+
+-- these were its options at this second
+abbrev pub HadOptions : List Happening → OptionsValue → ℕ → Type 0
+HadOptions [] options second = ⊥
+HadOptions (happened event before after ∷ past) options second =
+    HasOptions before options second ⊎ HadOptions past options second
+
 -- ---- what they make
 
 -- how far a look-up of this question is, with DO or without: it heard these replies, each to what it had to ask then,
@@ -106,37 +114,36 @@ pub record HeardReplies (past : List Happening) (dnssec : Bool) (l : LookupValue
 abbrev pub LastsTo : StoredValue → ℕ → Type 0
 LastsTo s deadline = deadline ≤ s.moment + s.kept.seconds
 
--- how a whole reply was stored: the networks whose addresses it may have and may not, the greatest TTL, and the second
+-- how a whole reply was stored: by which options, and the second from which on it ages
 pub record Storing : Type 0 where
-  pub allowed : List IpNet
-  pub denied : List IpNet
-  pub greatest : ℕ
+  pub options : OptionsValue
   pub second : ℕ
 
--- without addresses that are denied, and with no TTL above the greatest
+-- without the addresses that they deny for the name that was asked, and with no TTL above their greatest
 abbrev pub stored_so : Query → KeptValue → Storing → StoredValue
-stored_so q kept how =
-    stored_at q (capped how.greatest (without_denied how.allowed how.denied kept)) how.second
+stored_so q kept how = stored_at q (as_told q.name how.options kept) how.second
 
 -- These replies to a question and to what it led to, with DO or without, make the whole reply that was stored. Or they
 -- lead to a name of which is known here what is put behind them; or to a question for which such a reply was kept, with
 -- DO as well or without as well, which is put behind them as it had aged at a second at which it could be told. The
--- whole ages from a second on at which none of them was told yet: so no record outlives what was received.
+-- options are those of the second at which the last of this came. The whole ages from a second on at which none of them
+-- was told yet: so no record outlives what was received.
 pub data IsMadeOf (past : List Happening) (dnssec : Bool) : List ToldReply → StoredValue → Type 0 where
-  by_servers : (q : Query) (replies : List ToldReply) (kept : KeptValue) (how : Storing) (s : StoredValue)
-      → AreHeard past (begun q dnssec) replies
-      → whole_of (begun q dnssec) (messages replies) ≡ Some kept → AreSince how.second replies
-      → s ≡ stored_so q kept how → IsMadeOf past dnssec replies s
+  by_servers : (q : Query) (replies : List ToldReply) (last : ToldReply) (kept : KeptValue) (how : Storing)
+      (s : StoredValue) → AreHeard past (begun q dnssec) (replies ++ last ∷ [])
+      → whole_of (begun q dnssec) (messages (replies ++ last ∷ [])) ≡ Some kept
+      → HadOptions past how.options last.second → AreSince how.second (replies ++ last ∷ [])
+      → s ≡ stored_so q kept how → IsMadeOf past dnssec (replies ++ last ∷ []) s
   by_local_data : (q : Query) (replies : List ToldReply) (here : KeptValue) (second : ℕ) (how : Storing)
       (s : StoredValue) → AreHeard past (begun q dnssec) replies
       → WasKnown past (after_all (begun q dnssec) (messages replies)).next here second
-      → how.second ≤ second → AreSince how.second replies
+      → HadOptions past how.options second → how.second ≤ second → AreSince how.second replies
       → s ≡ stored_so q (whole_with here (after_all (begun q dnssec) (messages replies))) how
       → IsMadeOf past dnssec replies s
   by_kept_end : (q : Query) (first last : List ToldReply) (end : StoredValue) (second : ℕ) (how : Storing)
       (s : StoredValue) → AreHeard past (begun q dnssec) first
-      → IsMadeOf past dnssec last end → LastsTo end second → how.second ≤ second
-      → AreSince how.second first
+      → IsMadeOf past dnssec last end → LastsTo end second
+      → HadOptions past how.options second → how.second ≤ second → AreSince how.second first
       → is_same_question (asked_octets (after_all (begun q dnssec) (messages first)).next) (own_question end) ≡ true
       → s ≡ stored_so q
       (whole_with (aged (elapsed end second) end.kept) (after_all (begun q dnssec) (messages first))) how

@@ -40,7 +40,9 @@ pub fn bounds_are_kept()
 /// A look-up asks at most eight questions. What those who wait are told of it is what as few replies that the pool told
 /// make, one after another, some of them for a look-up before whose answer was kept; and so is all that is kept. Each
 /// was told to a look-up that had to ask what those before it led to. They are all read with DO, or all without, as the
-/// key says under which it was asked and is kept. As it ages it is told for no longer than the least of its TTLs.
+/// key says under which it was asked and is kept. It is without the addresses that the options deny for the name that
+/// was asked, and no TTL is above their greatest: the options at the second at which the last of what makes it came. As
+/// it ages it is told for no longer than the least of its TTLs.
 pub fn answers_are_of_replies()
     ensures { AnswersAreOfReplies }
 {}
