@@ -146,6 +146,18 @@ module _ {X : Type 0} where
       subst (λ (g : ℕ × X). At g.0 (e ∷ es) ≡ Some g.1) same
       (ap (λ (b : Bool). cond b (Some e.1) (At e.0 es)) (at-self e.0))
 
+  -- where none is of this number, the first is of another
+  pub first-apart : (n : ℕ) (f : ℕ × X) (es : List (ℕ × X)) → At n es ≡ None → slice_get es 0 ≡ Some f
+      → eqb n f.0 ≡ false
+  first-apart n f es none is = by (eqb n f.0) refl
+    where
+      by : (b : Bool) → eqb n f.0 ≡ b → b ≡ false
+      by false same = refl
+      by true same =
+          let no_such : None ≡ Some f.1 =
+          sym (ap (λ (k : ℕ). At k es) (sym (eqb-true n f.0 same)) ∙ none) ∙ first-at f es is in
+          absurd cc
+
   pub first-gone : (f : ℕ × X) (es : List (ℕ × X)) → slice_get es 0 ≡ Some f → Apart es → At f.0 (drop 1 es) ≡ None
   first-gone f [] is apart = absurd cc
   first-gone f (e ∷ es) is apart =

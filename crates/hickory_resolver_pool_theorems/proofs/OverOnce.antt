@@ -24,7 +24,7 @@ use Rattle.hickory_resolver_pool_theorems.specs.Runs.{Happening, came, did, Runs
 use Rattle.hickory_resolver_pool_theorems.specs.Tellings.{asking_in, IsNoneOf, IsToldElsewhere, WasToldElsewhere, IsNotOverBy, WasNotOver, OverOnce}
 use Rattle.hickory_resolver_pool_theorems.proofs.Hearing.{Asking, AreHeard, Given, Forgot, given-all, forgot-all}
 use Rattle.hickory_resolver_pool_theorems.proofs.Keys.{gone-removed}
-use Rattle.hickory_resolver_pool_theorems.proofs.ByNumber.{At, all-as, none-inserted, none-removed, none-dropped, none-changed, first-at}
+use Rattle.hickory_resolver_pool_theorems.proofs.ByNumber.{At, all-as, none-inserted, none-removed, none-dropped, none-changed, first-apart}
 use Rattle.hickory_resolver_pool_theorems.proofs.Overs.{gone-at_end, told-at_end}
 use Rattle.hickory_resolver_pool_theorems.proofs.Tellings.{IsChanged, stays, is_over, is_admitted, changed-step, After, IsAsked, joins, begins, waits, none_served, none_placed, asked-asking, came-askers, failed-askers, heard-runs, heard-at}
 
@@ -54,19 +54,12 @@ module _ (A : Asking) (a : AskersState) (o : OverValue) (w : IsGone A a o) where
   gone-admitted : IsGone A (admitted a) o
   gone-admitted = by (has_place a) (first_waiting a) refl
     where
-      other : (f : ℕ × WaitingValue) → first_waiting a ≡ Some f → (b : Bool) → eqb n f.0 ≡ b → b ≡ false
-      other f is false same = refl
-      other f is true same =
-          let no_such : None ≡ Some f.1 =
-          sym (ap (λ (k : ℕ). At k a.waiting) (sym (eqb-true n f.0 same)) ∙ w.waiting) ∙ first-at f a.waiting is in
-          absurd cc
-
       by : (place : Bool) (f : Option (ℕ × WaitingValue)) → first_waiting a ≡ f
           → IsGone A (option_map_or (admitted_one a) (cond place f None) a) o
       by true None is = w
       by true (Some f) is = record {
         old = w.old;
-        flying = none-inserted n f.0 f.1.askers a.in_flight (other f is (eqb n f.0) refl) w.flying;
+        flying = none-inserted n f.0 f.1.askers a.in_flight (first-apart n f a.waiting w.waiting is) w.flying;
         waiting = none-dropped n a.waiting w.waiting;
         numbers = w.numbers;
         elsewhere = w.elsewhere;

@@ -32,7 +32,7 @@ use Rattle.hickory_resolver_pool.specs.declared.limits.PoolLimits.{PoolLimits}
 use Rattle.hickory_resolver_pool_theorems.specs.Runs.{Happening, Runs, at_first, by_event, by_step}
 use Rattle.hickory_resolver_pool_theorems.specs.Tellings.{asking_in}
 use Rattle.hickory_resolver_pool_theorems.proofs.Askings.{put-is}
-use Rattle.hickory_resolver_pool_theorems.proofs.ByNumber.{At, none-inserted, none-removed, none-dropped, none-changed, first-at}
+use Rattle.hickory_resolver_pool_theorems.proofs.ByNumber.{At, none-inserted, none-removed, none-dropped, none-changed, first-apart}
 use Rattle.hickory_resolver_pool_theorems.proofs.Hearing.{Asking, AreHeard}
 use Rattle.hickory_resolver_pool_theorems.proofs.Keys.{nat-self, apart-is, found-inserted, others-inserted, found-set, others-set, others-removed, gone-removed}
 use Rattle.hickory_resolver_pool_theorems.proofs.Numbers.{takes-task}
@@ -112,18 +112,11 @@ module _ (n : ℕ) (a : AskersState) where
   unasked-admitted : IsUnasked n a → IsUnasked n (ask.admitted a)
   unasked-admitted w = by (has_place a) (first_waiting a) refl
     where
-      other : (f : ℕ × WaitingValue) → first_waiting a ≡ Some f → (b : Bool) → eqb n f.0 ≡ b → b ≡ false
-      other f is false same = refl
-      other f is true same =
-          let no_such : None ≡ Some f.1 =
-          sym (ap (λ (k : ℕ). At k a.waiting) (sym (eqb-true n f.0 same)) ∙ w.waiting) ∙ first-at f a.waiting is in
-          absurd cc
-
       by : (place : Bool) (f : Option (ℕ × WaitingValue)) → first_waiting a ≡ f
           → IsUnasked n (option_map_or (admitted_one a) (cond place f None) a)
       by true None is = w
       by true (Some f) is = record {
-        flying = none-inserted n f.0 f.1.askers a.in_flight (other f is (eqb n f.0) refl) w.flying;
+        flying = none-inserted n f.0 f.1.askers a.in_flight (first-apart n f a.waiting w.waiting is) w.flying;
         waiting = none-dropped n a.waiting w.waiting;
       }
       by false f is = w
